@@ -1,0 +1,11 @@
+pub mod Words
+pub mod Sections
+pub mod Heads
+pub mod Types
+pub mod Instructions
+pub mod Finding
+pub mod Layout
+pub mod Faults
+pub mod Counts
+pub mod Items
+pub mod Reader
