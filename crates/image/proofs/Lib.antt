@@ -1,2 +1,5 @@
 pub mod Walking
 pub mod Reading
+pub mod Splitting
+pub mod Earliest
+pub mod FirstFault

@@ -1,20 +1,19 @@
 -- Reading the items off the words, one after another.
 use mathlib.Core.Path.{_≡_, refl, sym, ap, _∙_}
 use mathlib.Core.List.{List, [], _∷_}
-use Prim.Native.Nat.{ℕ, zero, suc, _+_, _-_}
+use Prim.Native.Nat.{ℕ, zero, suc, _+_, _-_, _<_}
 use native.Mathlib.Nat.{add-zero}
 use native.Mathlib.Omega.{arith}
 use lib.ListN.{length, take, drop}
 use Rattle.std.specs.declared.option.Option.{Option}
 use Rattle.std.specs.declared.option.Option.the-variants.{Some, None}
-use Rattle.std.proofs.shelf.Lists.{drop-drop, take-rest}
+use Rattle.std.proofs.shelf.Lists.{drop-drop, take-rest, length-take-le}
 use Rattle.image.specs.declared.section.Section.{Section}
 use Rattle.image.specs.declared.head.Head.{Head}
 use Rattle.image.specs.declared.counts.Counts.{Counts}
 use Rattle.image.specs.Heads.{section-of, follows}
 use Rattle.image.specs.Counts.{count-of, with-one}
 use Rattle.image.specs.Items.{Piece, piece, whole-head, pieces-from}
-use Rattle.image.specs.Reader.{Hands-out}
 
 -- the words of an item that began before are passed over
 pub skipped : (before : Counts) (k place : ℕ) (ns : List ℕ) → pieces-from before k place ns ≡ pieces-from before 0 (place + k) (drop k ns)
@@ -23,7 +22,7 @@ skipped before (suc k) place [] = refl
 skipped before (suc k) place (n ∷ ns) =
     let e : suc place + k ≡ place + suc k = omega arith in skipped before k (suc place) ns ∙ ap (λ p. pieces-from before 0 p (drop k ns)) e
 
-abbrev read : Counts → ℕ → ℕ → List ℕ → Option Head → List Piece
+abbrev pub read : Counts → ℕ → ℕ → List ℕ → Option Head → List Piece
 read before place n ns o =
     elim o [
       | None ↦ []
@@ -44,19 +43,15 @@ one-more before place (n ∷ ns) h e =
     ∙ ap (λ p. piece (section-of h) place (count-of before (section-of h)) (n ∷ take (follows h) ns) ∷ pieces-from (with-one before (section-of h)) 0 p (drop (follows h) ns)) far
     ∙ ap (λ k. piece (section-of h) place (count-of before (section-of h)) (take k (n ∷ ns)) ∷ pieces-from (with-one before (section-of h)) 0 (place + 1 + follows h) (drop k (n ∷ ns))) (sym one)
 
-pub hands-none : (l rest : List Piece) → l ≡ [] → rest ≡ [] → Hands-out l None rest
-hands-none l rest e f = rw e (refl, f)
-
-pub hands-one : (l : List Piece) (p : Piece) (ps : List Piece) (o : Option Piece) (rest : List Piece) → l ≡ p ∷ ps → o ≡ Some p → rest ≡ ps → Hands-out l o rest
-hands-one l p ps o rest e f g = rw e (f, g)
-
 -- a turn of the reader: it stands at a place of the front, where a whole item begins
-module _ (front : List ℕ) (at : ℕ) (before : Counts) (h : Head) (section : Section) (number f : ℕ) (after : Counts) where
-  pub handed : Some h ≡ whole-head (take (length front - at) (drop at front)) → section ≡ section-of h → number ≡ count-of before section → f ≡ follows h → after ≡ with-one before section → Hands-out (pieces-from before 0 at (drop at front)) (Some (piece section at number (take (at + 1 + f - at) (drop at front)))) (pieces-from after 0 (at + 1 + f) (drop (at + 1 + f) front))
-  handed e s k l w =
-      let words : take (at + 1 + f - at) (drop at front) ≡ take (1 + follows h) (drop at front) = let n : at + 1 + f - at ≡ 1 + follows h = omega arith in ap (λ n. take n (drop at front)) n in
-      let far : drop (at + 1 + f) front ≡ drop (1 + follows h) (drop at front) = let n : at + 1 + f ≡ at + (1 + follows h) = omega arith in ap (λ n. drop n front) n ∙ sym (drop-drop (1 + follows h) at front) in
-      let to : at + 1 + f ≡ at + 1 + follows h = omega arith in
+module _ (front : List ℕ) (at : ℕ) (before : Counts) (h : Head) (section : Section) (number f : ℕ) where
+  pub turn : Some h ≡ whole-head (take (length front - at) (drop at front)) → section ≡ section-of h → number ≡ count-of before section → f ≡ follows h → pieces-from before 0 at (drop at front) ≡ piece section at number (take (at + (1 + f) - at) (drop at front)) ∷ pieces-from (with-one before section) 0 (at + (1 + f)) (drop (at + (1 + f)) front)
+  turn e s k l =
+      let words : take (at + (1 + f) - at) (drop at front) ≡ take (1 + follows h) (drop at front) = let n : at + (1 + f) - at ≡ 1 + follows h = omega arith in ap (λ n. take n (drop at front)) n in
+      let far : drop (at + (1 + f)) front ≡ drop (1 + follows h) (drop at front) = let n : at + (1 + f) ≡ at + (1 + follows h) = omega arith in ap (λ n. drop n front) n ∙ sym (drop-drop (1 + follows h) at front) in
+      let to : at + (1 + f) ≡ at + 1 + follows h = omega arith in
       let seen : number ≡ count-of before (section-of h) = k ∙ ap (count-of before) s in
-      let then : after ≡ with-one before (section-of h) = w ∙ ap (with-one before) s in
-      hands-one _ _ _ _ _ (one-more before at (drop at front) h (e ∙ ap whole-head (take-rest front at))) (rw (s, words, seen)) (rw (then, far, to))
+      one-more before at (drop at front) h (e ∙ ap whole-head (take-rest front at)) ∙ sym (rw (s, words, seen, far, to))
+
+pub part-length : (front : List ℕ) (at f : ℕ) → f < length (drop at front) → length (take (at + (1 + f) - at) (drop at front)) ≡ 1 + f
+part-length front at f h = let n : at + (1 + f) - at ≡ 1 + f = omega arith in rw n (length-take-le (1 + f) (drop at front) (omega arith))

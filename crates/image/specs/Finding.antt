@@ -20,7 +20,6 @@ clear then y = y
 (fault rule place) then y = fault rule place
 
 infixr 40 _then_
-
 -- tests: each a rule, and whether it is kept
 abbrev pub Tests : Type 0 → Type 0
 Tests R = List (R × Bool)

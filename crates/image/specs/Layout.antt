@@ -1,9 +1,9 @@
 -- The layout pass: is an image of any words a row of whole items, in their order and within their limits?
-use mathlib.Core.List.{List, [], _∷_}
+use mathlib.Core.List.{List, [], _∷_, _++_}
 use mathlib.Core.Bool.{Bool, true, false, cond, not, _&&_, _||_}
 use Prim.Native.Nat.{ℕ, zero, suc, _+_}
-use lib.ListN.{length}
-use lib.Dec.{eqb, leb}
+use lib.ListN.{length, getD, take}
+use lib.Dec.{eqb, leb, ltb}
 use Rattle.std.specs.declared.option.Option.the-variants.{None, Some}
 use Rattle.image.specs.declared.word.Word.{Word}
 use Rattle.image.specs.declared.section.Section.{Section}
@@ -121,3 +121,18 @@ onward size s place ns = walk word-tests step s place ns then first size (end-te
 
 abbrev pub layout : List ℕ → Finding LayoutRule
 layout ns = first 0 ((TooLong, leb (length ns) 2048) ∷ []) then onward (length ns) outset 0 ns
+
+-- ---- the same without a walk
+
+-- what is asked at a place: at the front that the image is not too long, of each word its tests where the words before it left the
+-- pass, and behind the last word that the image is whole
+abbrev pub length-tests : List ℕ → ℕ → Tests LayoutRule
+length-tests ns zero = (TooLong, leb (length ns) 2048) ∷ []
+length-tests ns (suc place) = []
+
+abbrev pub place-tests : List ℕ → ℕ → Tests LayoutRule
+place-tests ns place =
+    cond (ltb place (length ns)) (word-tests (arrive word-tests step outset (take place ns)) (getD ns place 0)) (end-tests (arrive word-tests step outset ns))
+
+abbrev pub asked-at : List ℕ → ℕ → Tests LayoutRule
+asked-at ns place = length-tests ns place ++ place-tests ns place

@@ -4,8 +4,11 @@ pub mod Heads
 pub mod Types
 pub mod Instructions
 pub mod Finding
+pub mod Earliest
 pub mod Layout
 pub mod Faults
 pub mod Counts
 pub mod Items
 pub mod Reader
+pub mod Surveys
+pub mod Splits

@@ -2,11 +2,13 @@
 use mathlib.Core.Path.{_≡_}
 use mathlib.Core.List.{List, [], _∷_}
 use denote.Ref.{now}
-use lib.ListN.{drop}
+use lib.ListN.{length, drop}
 use Rattle.std.specs.declared.option.Option.{Option}
 use Rattle.std.specs.declared.option.Option.the-variants.{None, Some}
 use Rattle.image.specs.declared.item.Item.{Item}
 use Rattle.image.specs.declared.items.Items.{Items}
+use Rattle.image.specs.declared.survey.Survey.{Survey}
+use Rattle.image.specs.Surveys.{with-item}
 use Rattle.image.specs.Items.{Piece, piece, part-of, item-section, pieces-from}
 
 -- an item without its address
@@ -16,9 +18,23 @@ shown (Some i) = Some (piece (item-section i) (part-of i .place) (part-of i .num
 
 -- the items that are still to come
 abbrev pub to-come : Items → List Piece
-to-come r = pieces-from (r .counts) 0 (r .at) (drop (r .at) (now (r .front)))
+to-come r = pieces-from (r .seen .counts) 0 (r .seen .end) (drop (r .seen .end) (now (r .front)))
 
--- the first of the items to come is handed out, and the others are still to come; none where there are none
-abbrev pub Hands-out : List Piece → Option Piece → List Piece → Type 0
-Hands-out [] o rest = (o ≡ None) × (rest ≡ [])
-Hands-out (p ∷ ps) o rest = (o ≡ Some p) × (rest ≡ ps)
+-- what is handed out of the items to come, and what is seen then: the first, or none where there are none
+abbrev pub handed : List Piece → Option Piece
+handed [] = None
+handed (p ∷ ps) = Some p
+
+abbrev pub others : List Piece → List Piece
+others [] = []
+others (p ∷ ps) = ps
+
+abbrev pub seen-with : Survey → Option Piece → Survey
+seen-with s None = s
+seen-with s (Some p) = with-item s (p .section) (length (p .words))
+
+-- one reading: the first of the items to come is handed out and counted, and the others are still to come
+pub record Hands-out (before : Items) (o : Option Item) (after : Items) : Type 0 where
+  pub item : shown o ≡ handed (to-come before)
+  pub rest : to-come after ≡ others (to-come before)
+  pub seen : after .seen ≡ seen-with (before .seen) (shown o)

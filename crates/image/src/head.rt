@@ -72,7 +72,10 @@ impl Head {
                 depth,
             } => Word::new(3, 0, 0, depth % 128),
             Head::Signature {
-                context: Context::Raised { label, postdominator },
+                context: Context::Raised {
+                    label,
+                    postdominator,
+                },
                 depth,
             } => Word::new(3, label, postdominator, 128 + depth % 128),
             Head::Tuple { shape, cells } => Word::new(4, 0, cells, shape),

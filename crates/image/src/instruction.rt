@@ -58,17 +58,39 @@ impl Instruction {
             0x21 => Some(Instruction::SetTuple { to: a, tuple: c }),
             0x22 => Some(Instruction::SetBlock { to: a, block: c }),
             0x23 => Some(Instruction::Copy { to: a, from: b }),
-            0x24 => Some(Instruction::Add { to: a, left: b, right: c }),
-            0x25 => Some(Instruction::Fetch { to: a, pointer: b, cell: c }),
-            0x26 => Some(Instruction::Store { pointer: a, from: b, cell: c }),
+            0x24 => Some(Instruction::Add {
+                to: a,
+                left: b,
+                right: c,
+            }),
+            0x25 => Some(Instruction::Fetch {
+                to: a,
+                pointer: b,
+                cell: c,
+            }),
+            0x26 => Some(Instruction::Store {
+                pointer: a,
+                from: b,
+                cell: c,
+            }),
             0x27 => Some(Instruction::Push { count: c }),
             0x28 => Some(Instruction::Pop { count: c }),
             0x29 => Some(Instruction::Peek { to: a, slot: c }),
             0x2A => Some(Instruction::Poke { from: b, slot: c }),
-            0x2B => Some(Instruction::Strike { channel: a, from: b }),
+            0x2B => Some(Instruction::Strike {
+                channel: a,
+                from: b,
+            }),
             0x2C => Some(Instruction::Branch { test: a, target: b }),
-            0x2D => Some(Instruction::Raise { label: a, postdominator: c }),
-            0x2E => Some(Instruction::Subtract { to: a, left: b, right: c }),
+            0x2D => Some(Instruction::Raise {
+                label: a,
+                postdominator: c,
+            }),
+            0x2E => Some(Instruction::Subtract {
+                to: a,
+                left: b,
+                right: c,
+            }),
             _ => None,
         }
     }
@@ -78,20 +100,32 @@ impl Instruction {
         ensures { λ r. ⌜ r ≡ instruction-word self ⌝ }
     {
         match self {
-            Instruction::SetNumber { to, value } => Word::new(0x20, to, (value / 256) as u8, (value % 256) as u8),
+            Instruction::SetNumber { to, value } => Word::new(
+                0x20,
+                to,
+                (value / 256) as u8,
+                (value % 256) as u8,
+            ),
             Instruction::SetTuple { to, tuple } => Word::new(0x21, to, 0, tuple),
             Instruction::SetBlock { to, block } => Word::new(0x22, to, 0, block),
             Instruction::Copy { to, from } => Word::new(0x23, to, from, 0),
             Instruction::Add { to, left, right } => Word::new(0x24, to, left, right),
             Instruction::Fetch { to, pointer, cell } => Word::new(0x25, to, pointer, cell),
-            Instruction::Store { pointer, from, cell } => Word::new(0x26, pointer, from, cell),
+            Instruction::Store {
+                pointer,
+                from,
+                cell,
+            } => Word::new(0x26, pointer, from, cell),
             Instruction::Push { count } => Word::new(0x27, 0, 0, count),
             Instruction::Pop { count } => Word::new(0x28, 0, 0, count),
             Instruction::Peek { to, slot } => Word::new(0x29, to, 0, slot),
             Instruction::Poke { from, slot } => Word::new(0x2A, 0, from, slot),
             Instruction::Strike { channel, from } => Word::new(0x2B, channel, from, 0),
             Instruction::Branch { test, target } => Word::new(0x2C, test, target, 0),
-            Instruction::Raise { label, postdominator } => Word::new(0x2D, label, 0, postdominator),
+            Instruction::Raise {
+                label,
+                postdominator,
+            } => Word::new(0x2D, label, 0, postdominator),
             Instruction::Subtract { to, left, right } => Word::new(0x2E, to, left, right),
             Instruction::Jump { target } => Word::new(0x30, target, 0, 0),
             Instruction::Lower { block } => Word::new(0x31, 0, 0, block),

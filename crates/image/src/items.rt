@@ -2,9 +2,12 @@ ghost use Prim.Native.Nat.{_≤_};
 ghost use Rattle.image.specs.Counts.{total};
 ghost use denote.Ref.{now};
 ghost use lib.ListN.{length};
-use crate::counts::Counts;
+use crate::survey::Survey;
 
 mod reader;
+
+pub use reader::ItemsIterator;
+pub use reader::survey;
 
 // The items of an image that are still to come. They are read off the words before the image's first fault, so an item with a fault
 // in it is never handed out.
@@ -12,10 +15,9 @@ mod reader;
 pub struct Items<'a> {
     // the words before the first fault
     front: &'a [u32],
-    // where the next item begins
-    at: usize,
-    // how many items came before
-    counts: Counts,
-    ghost within: { at ≤ length (now front) },
-    ghost few: { total counts ≤ at },
+    // the items that were handed out
+    seen: Survey,
+    ghost within: { seen .end ≤ length (now front) },
+    ghost few: { total (seen .counts) ≤ seen .end },
+    ghost sparse: { seen .cells ≤ seen .end },
 }

@@ -1,6 +1,7 @@
 ghost use Prim.Native.Nat.{ℕ, suc, _+_, _*_, _<_, _≤_};
 ghost use Rattle.image.specs.Finding.{broken};
-ghost use Rattle.image.specs.Layout.{between, size-fine, counted, cells-of, tests-of-head, head-tests, type-tests, instruction-tests, inner-tests, word-tests, step, end-tests, outset, onward, layout};
+ghost use Rattle.image.specs.Layout.{between, size-fine, counted, cells-of, tests-of-head, head-tests, type-tests, instruction-tests, inner-tests, word-tests, step, end-tests, outset, onward, layout, number-of, asked-at};
+ghost use Rattle.image.specs.Earliest.{Earliest-and-lowest};
 ghost use Rattle.image.specs.Faults.{reported};
 ghost use Rattle.std.specs.Options.{Cases as BySome};
 ghost use lib.ListN.{length};
@@ -47,7 +48,11 @@ fn counted(s: &Stand, h: Head) -> usize
     ensures value { λ r. ⌜ r ≡ counted (now (s .entry)) h ⌝ }
     ensures more { λ r. ⌜ r ≤ now (s .entry) .count + 1 ⌝ }
 {
-    if h.section().rank() == s.section.rank() { s.count + 1 } else { 1 }
+    if h.section().rank() == s.section.rank() {
+        s.count + 1
+    } else {
+        1
+    }
 }
 
 fn head_fault(s: &Stand, w: Word) -> Option<LayoutRule>
@@ -195,6 +200,7 @@ fn scan(words: &[u32]) -> Option<LayoutFault>
 // The first fault of an image: the earliest word, and there the lowest number.
 pub fn first_fault(words: &[u32]) -> Option<LayoutFault>
     ensures value { λ r. ⌜ reported r ≡ layout (now (words .entry)) ⌝ }
+    ensures first { λ _. ⌜ Earliest-and-lowest number-of (asked-at (now (words .entry))) (length (now (words .entry))) (layout (now (words .entry))) ⌝ }
     ensures within { λ r. ⌜ BySome r (Unit {0}) (λ f. f .place ≤ length (now (words .entry))) ⌝ }
 {
     if words.len() > 2048 {

@@ -8,5 +8,6 @@ pub mod layout;
 pub mod rule;
 pub mod section;
 mod stand;
+pub mod survey;
 pub mod ty;
 pub mod word;

@@ -1,65 +1,64 @@
-ghost use Rattle.image.specs.Reader.{shown, to-come, Hands-out};
-ghost use Rattle.image.specs.Items.{pieces, whole-head};
-ghost use Rattle.image.specs.Counts.{no-items};
+ghost use Rattle.image.specs.Reader.{to-come, Hands-out};
+ghost use Rattle.image.specs.Items.{pieces, whole-head, reach};
+ghost use Rattle.image.specs.Splits.{Split};
+ghost use Rattle.image.specs.Surveys.{nothing-seen, surveyed};
 ghost use Rattle.image.specs.Heads.{follows};
+ghost use Rattle.image.specs.Layout.{layout};
 ghost use Rattle.std.specs.Options.{Cases as BySome};
-ghost use Prim.Native.Nat.{_-_, _<_};
+ghost use Prim.Native.Nat.{_-_, _<_, _≤_};
 ghost use lib.ListN.{length};
 ghost use denote.Ref.{now};
 ghost use mathlib.Core.Path.{_≡_};
-use crate::counts::Counts;
 use crate::head::Head;
 use crate::item::Item;
 use crate::item::Part;
 use crate::items::Items;
 use crate::layout::first_fault;
+use crate::survey::Survey;
 use crate::word::Word;
 
 impl<'a> Items<'a> {
     // The items of an image, from its front to its first fault.
     pub fn of(image: &'a [u32]) -> Items<'a>
-        ensures { λ r. ⌜ to-come r ≡ pieces (now (image .entry)) ⌝ }
+        ensures items { λ r. ⌜ to-come r ≡ pieces (now (image .entry)) ⌝ }
+        ensures split { λ _. ⌜ Split (now (image .entry)) (pieces (now (image .entry))) ⌝ }
+        ensures seen { λ r. ⌜ r .seen ≡ nothing-seen ⌝ }
     {
-        let reach = match first_fault(image) {
-            None => image.len(),
-            Some(fault) => fault.place,
-        };
+        let sound = sound_words(image);
         Items {
-            front: &image[0..reach],
-            at: 0,
-            counts: Counts::none(),
+            front: &image[0..sound],
+            seen: Survey::nothing(),
         }
     }
 
-    // How many items of each section were handed out.
-    pub fn counts(&self) -> Counts
-        ensures { λ r. ⌜ r ≡ now (self .entry) .counts ⌝ }
+    // What was handed out.
+    pub fn seen(&self) -> Survey
+        ensures { λ r. ⌜ r ≡ now (self .entry) .seen ⌝ }
     {
-        self.counts
+        self.seen
     }
 }
 
 pub impl<'a> Iterator for Items<'a> as ItemsIterator {
     type Item = Item<'a>;
 
-    ghost steps = { λ s r t. Hands-out (to-come s) (shown r) (to-come t) };
+    ghost steps = { λ s r t. Hands-out s r t };
 
     ghost ends = { λ _. Unit {0} };
 
-    ghost left = { λ s. length (now (s .front)) - s .at };
+    ghost left = { λ s. length (now (s .front)) - s .seen .end };
 
     fn next(&mut self) -> Option<Item<'a>> {
         let front = self.front;
-        let place = self.at;
+        let place = self.seen.end;
         match whole_head(&front[place..]) {
             None => None,
             Some(head) => {
                 let section = head.section();
-                let number = self.counts.of(section);
-                let end = place + 1 + head.follows();
-                self.counts.add(section);
-                self.at = end;
-                let words = &front[place..end];
+                let number = self.seen.counts.of(section);
+                let size = 1 + head.follows();
+                self.seen.add(section, size);
+                let words = &front[place..place + size];
                 Some(Item::of(
                     section,
                     Part {
@@ -70,6 +69,26 @@ pub impl<'a> Iterator for Items<'a> as ItemsIterator {
                 ))
             }
         }
+    }
+}
+
+// What all items of an image come to, as far as its first fault.
+pub fn survey(image: &[u32]) -> Survey
+    ensures { λ r. ⌜ r ≡ surveyed nothing-seen (pieces (now (image .entry))) ⌝ }
+{
+    let mut items = Items::of(image);
+    while let Some(_) = items.next() {}
+    items.seen()
+}
+
+// How many words stand before the first fault.
+fn sound_words(image: &[u32]) -> usize
+    ensures value { λ r. ⌜ r ≡ reach (now (image .entry)) (layout (now (image .entry))) ⌝ }
+    ensures within { λ r. ⌜ r ≤ length (now (image .entry)) ⌝ }
+{
+    match first_fault(image) {
+        None => image.len(),
+        Some(fault) => fault.place,
     }
 }
 

@@ -1,0 +1,4 @@
+pub mod Within
+pub mod Unions
+pub mod Parts
+pub mod Uniqueness

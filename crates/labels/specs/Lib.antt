@@ -1,0 +1,5 @@
+pub mod Meaning
+pub mod Stages
+pub mod Mastheads
+pub mod Pairs
+pub mod Laws

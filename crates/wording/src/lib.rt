@@ -1,0 +1,14 @@
+// Images in words that a setter understands: the listing of items, and the sentence of a refusal.
+//
+// Each struct here holds a value and shows it by its `Display`.
+mod listing;
+mod nouns;
+mod refusal;
+mod terms;
+
+pub use listing::ItemLines;
+pub use listing::ItemLinesDisplay;
+pub use listing::Summary;
+pub use listing::SummaryDisplay;
+pub use refusal::LayoutRefusal;
+pub use refusal::LayoutRefusalDisplay;
