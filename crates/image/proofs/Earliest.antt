@@ -87,8 +87,8 @@ module _ {R S A : Type 0} (number : R → ℕ) (tests : S → A → Tests R) (ne
   walked (x ∷ xs) s p end e each stop =
       go (broken (tests s x)) (told number m (tests s x) (ascending s x))
       (walked xs (next s x) (suc p) end (omega arith)
-        (λ i l. let k : suc p + i ≡ p + suc i = omega arith in ap asked k ∙ each (suc i) (omega arith))
-        stop)
+      (λ i l. let k : suc p + i ≡ p + suc i = omega arith in ap asked k ∙ each (suc i) (omega arith))
+      stop)
     where
       here : asked p ≡ tests s x
       here = ap asked (sym (add-zero p)) ∙ each 0 (omega arith)

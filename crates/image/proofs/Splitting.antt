@@ -128,11 +128,11 @@ whole (n ∷ ns) before x c m (suc left) place w a = whole ns before x c m left 
 whole (n ∷ ns) before x c m zero place w a =
     headed (words-of (pieces-from before 0 place (n ∷ ns)) ≡ n ∷ ns) place (head-of (split n)) (λ h. tests-of-head (stand x c m 0) h (split n)) (first-clear _ _ w)
     (λ h e.
-      let s = stand x c m 0 in
-      let st = after-head-is s n h e in
-      let w2 : walk word-tests step (after-head s h) (suc place) ns ≡ clear = subst (λ t. walk word-tests step t (suc place) ns ≡ clear) st (then-clear _ _ w) in
-      let a2 : arrive word-tests step (after-head s h) ns .left ≡ 0 = subst (λ t. arrive word-tests step t ns .left ≡ 0) st a in
-      item-and-rest n ns before s place h e (enough (after-head s h) ns a2) (whole ns (with-one before (section-of h)) _ _ _ (follows h) (suc place) w2 a2))
+    let s = stand x c m 0 in
+    let st = after-head-is s n h e in
+    let w2 : walk word-tests step (after-head s h) (suc place) ns ≡ clear = subst (λ t. walk word-tests step t (suc place) ns ≡ clear) st (then-clear _ _ w) in
+    let a2 : arrive word-tests step (after-head s h) ns .left ≡ 0 = subst (λ t. arrive word-tests step t ns .left ≡ 0) st a in
+    item-and-rest n ns before s place h e (enough (after-head s h) ns a2) (whole ns (with-one before (section-of h)) _ _ _ (follows h) (suc place) w2 a2))
 
 -- ---- together
 

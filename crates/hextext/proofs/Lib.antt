@@ -1,0 +1,4 @@
+mod Digits
+mod Turns
+mod Shown
+mod Typing

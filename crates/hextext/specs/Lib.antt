@@ -1,0 +1,4 @@
+pub mod Text
+pub mod Bounds
+pub mod Sentences
+pub mod Typed
