@@ -31,7 +31,6 @@ use wording::SummaryDisplay;
 enum Command {
     Help,
     Items(String),
-    Mistaken(&'static str),
 }
 
 // The command that the arguments spell.
@@ -46,11 +45,24 @@ fn asked_for(rt: &LibcRuntime) -> Result<Command, Failure> {
     match (name.as_str(), operand) {
         ("--help" | "-h" | "help", None) => Ok(Command::Help),
         ("items", Some(file)) if !extra => Ok(Command::Items(file)),
-        ("items", _) => Ok(Command::Mistaken(
+        ("items", _) => mistaken(
+            rt,
             "'imprint items' takes one file, or - for standard input",
-        )),
-        _ => Ok(Command::Mistaken("no such command; 'imprint --help' lists what there is")),
+        ),
+        _ => {
+            let name = name.as_str();
+            let text = format!(
+                rt.alloc(),
+                "no command '{name}'; 'imprint --help' lists what there is"
+            )?;
+            mistaken(rt, text.as_str())
+        }
     }
+}
+
+// A call that the program does not know.
+fn mistaken(rt: &LibcRuntime, text: &str) -> Result<Command, Failure> {
+    Err(Failure::Said(String::from_str(rt.alloc(), text)?))
 }
 
 // The bytes of a file; `-` is standard input.
@@ -98,7 +110,6 @@ fn run(rt: &LibcRuntime) -> Result<(), Failure> {
             Ok(())
         }
         Command::Items(file) => list_items(rt, file.as_str()),
-        Command::Mistaken(text) => Err(Failure::Said(String::from_str(rt.alloc(), text)?)),
     }
 }
 

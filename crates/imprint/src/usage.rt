@@ -14,6 +14,8 @@ usage:
   imprint items FILE   list the items of the image in FILE
   imprint --help       this text
 
+example: imprint items examples/card.hex
+
 FILE is a text of words, one to eight hexadecimal digits each, separated by white space;
 '#' starts a comment that runs to the end of its line. '-' stands for standard input.
 

@@ -31,11 +31,12 @@ impl<'a> Items<'a> {
         }
     }
 
-    // What was handed out.
-    pub fn seen(&self) -> Survey
-        ensures { λ r. ⌜ r ≡ now (self .entry) .seen ⌝ }
+    // What the items that were handed out come to.
+    pub fn into_seen(self) -> Survey
+        ensures { λ r. ⌜ r ≡ self .entry .seen ⌝ }
     {
-        self.seen
+        let Items { front: _, seen } = self;
+        seen
     }
 }
 
@@ -78,7 +79,7 @@ pub fn survey(image: &[u32]) -> Survey
 {
     let mut items = Items::of(image);
     while let Some(_) = items.next() {}
-    items.seen()
+    items.into_seen()
 }
 
 // How many words stand before the first fault.
