@@ -15,6 +15,9 @@ use crate::stand::Stand;
 use crate::ty::Ty;
 use crate::word::Word;
 
+// An image has at most so many words.
+pub const MOST_WORDS: usize = 2048;
+
 fn within(low: u8, high: u8, n: u8) -> bool
     ensures { λ r. ⌜ r ≡ between low high n ⌝ }
 {
@@ -203,7 +206,7 @@ pub fn first_fault(words: &[u32]) -> Option<LayoutFault>
     ensures first { λ _. ⌜ Earliest-and-lowest number-of (asked-at (now (words .entry))) (length (now (words .entry))) (layout (now (words .entry))) ⌝ }
     ensures within { λ r. ⌜ BySome r (Unit {0}) (λ f. f .place ≤ length (now (words .entry))) ⌝ }
 {
-    if words.len() > 2048 {
+    if words.len() > MOST_WORDS {
         return Some(LayoutFault {
             rule: LayoutRule::TooLong,
             place: 0,

@@ -6,6 +6,7 @@ use crate::nouns::SeveralDisplay;
 use image::counts::Counts;
 use image::head::Head;
 use image::instruction::Instruction;
+use image::layout::MOST_WORDS;
 use image::rule::LayoutFault;
 use image::rule::LayoutRule;
 use image::section::Section;
