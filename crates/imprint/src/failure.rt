@@ -1,5 +1,6 @@
 // What keeps the program from doing its job, for standard error.
 use std::alloc::AllocError;
+use std::alloc::Refused;
 use std::fmt;
 use std::io;
 
@@ -28,6 +29,12 @@ pub impl From<io::Error> for Failure as FailureFromIo {
 
 pub impl From<AllocError> for Failure as FailureFromAlloc {
     fn from(_e: AllocError) -> Failure {
+        Failure::Memory
+    }
+}
+
+pub impl<T: Drop> From<Refused<T>> for Failure as FailureFromRefused {
+    fn from(_e: Refused<T>) -> Failure {
         Failure::Memory
     }
 }

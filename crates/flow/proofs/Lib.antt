@@ -1,0 +1,3 @@
+pub mod Walking
+pub mod Bodies
+pub mod Passing

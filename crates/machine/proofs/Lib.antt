@@ -1,0 +1,13 @@
+pub mod Sound
+pub mod Every
+pub mod Counting
+pub mod Looked
+pub mod Laying
+pub mod Fitted
+pub mod Bases
+pub mod Holding
+pub mod Keeping
+pub mod Passing
+pub mod Starting
+pub mod Facing
+pub mod Runs

@@ -1,0 +1,15 @@
+pub mod Tests
+pub mod Fitting
+pub mod Flowing
+pub mod Names
+pub mod Words
+pub mod TypeWords
+pub mod InstructionWords
+pub mod ItemWords
+pub mod Rows
+pub mod Limits
+pub mod Runs
+pub mod Decides
+pub mod Bare
+pub mod KindFree
+pub mod Unlabelled

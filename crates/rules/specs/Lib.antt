@@ -1,0 +1,15 @@
+pub mod Program
+pub mod Says
+pub mod Naming
+pub mod Types
+pub mod Fit
+pub mod Flow
+pub mod Verdict
+pub mod Written
+pub mod LaidOut
+pub mod Named
+pub mod WellTyped
+pub mod Rules
+pub mod Free
+pub mod Card
+pub mod Promises
