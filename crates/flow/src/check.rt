@@ -16,6 +16,15 @@ use image::ty::Ty;
 use labels::LabelKind;
 use programme::laid_out::LaidOut;
 use rules::rule::FlowRule;
+use rules::types::alike;
+use rules::types::is_code;
+use rules::types::is_empty;
+use rules::types::is_integer;
+use rules::types::is_pointer;
+use rules::types::joined_label;
+use rules::types::label_of;
+use rules::types::raised_to;
+use rules::types::same_context;
 use typing::fit::labels_fit;
 use typing::fit::same_depth;
 use typing::fit::sorts_fit;
@@ -25,15 +34,6 @@ use typing::lookup::channel_label;
 use typing::lookup::has_cell;
 use typing::lookup::target_promise;
 use typing::state::State;
-use typing::types::alike;
-use typing::types::is_code;
-use typing::types::is_empty;
-use typing::types::is_integer;
-use typing::types::is_pointer;
-use typing::types::joined_label;
-use typing::types::label_of;
-use typing::types::raised_to;
-use typing::types::same_context;
 
 // The rule of the lowest number that an instruction breaks in a state, if it breaks any.
 pub(crate) fn instruction_fault<K: LabelKind>(

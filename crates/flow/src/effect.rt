@@ -9,16 +9,16 @@ use image::instruction::Instruction;
 use image::ty::Ty;
 use labels::LabelKind;
 use programme::laid_out::LaidOut;
+use rules::types::code;
+use rules::types::integer;
+use rules::types::joined_label;
+use rules::types::label_of;
+use rules::types::over;
+use rules::types::pointer;
 use typing::lookup::block_signature;
 use typing::lookup::cell_type;
 use typing::lookup::tuple_shape;
 use typing::state::State;
-use typing::types::code;
-use typing::types::integer;
-use typing::types::joined_label;
-use typing::types::label_of;
-use typing::types::over;
-use typing::types::pointer;
 
 // The type of what is fetched: the label of the pointer is joined in, since it tells which tuple is read.
 fn fetched_type<K: LabelKind>(kind: &K, image: &LaidOut<'_>, l: u8, t: Ty, n: u8) -> Ty

@@ -6,20 +6,20 @@ ghost use Rattle.image.specs.declared.section.Section.the-variants.{Blocks};
 ghost use Rattle.programme.specs.Lookup.{part-piece};
 ghost use Rattle.programme.specs.Spelled.{words-in, program-in};
 ghost use Rattle.rules.specs.Flow.{body-flow, part-flow};
-ghost use Rattle.rules.specs.Says.{instruction-in, body-of, says};
+ghost use Rattle.rules.specs.Says.{body-of, says};
 ghost use Rattle.rules.specs.Verdict.{flow-of};
 ghost use lib.ListN.{length};
 ghost use mathlib.Core.Path.{_≡_};
 use crate::check::instruction_fault;
 use crate::effect::advance;
 use crate::fault::FlowFault;
-use image::instruction::Instruction;
 use image::item::Item;
 use image::item::Part;
 use image::items::Items;
 use image::items::ItemsIterator;
 use image::word::Word;
 use labels::LabelKind;
+use programme::decode::instruction_in;
 use programme::laid_out::LaidOut;
 use typing::lookup::signature_promise;
 use typing::promise::Promise;
@@ -80,14 +80,4 @@ fn check_words<K: LabelKind>(
         advance(kind, image, &mut s, instruction);
     }
     Ok(())
-}
-
-// The instruction that a word of a block is: its last word, and no other, is one that ends it.
-pub(crate) fn instruction_in(last: bool, raw: u32) -> Instruction
-    ensures { λ r. ⌜ r ≡ instruction-in last raw ⌝ }
-{
-    match Instruction::decode(last, Word::of(raw)) {
-        None => Instruction::Halt,
-        Some(i) => i,
-    }
 }

@@ -8,11 +8,11 @@ ghost use mathlib.Core.List.{map};
 ghost use mathlib.Core.Path.{_≡_};
 use crate::promise::Promise;
 use crate::state::State;
-use crate::types::fit_label;
-use crate::types::fit_sort;
-use crate::types::type_in;
 use image::ty::Ty;
 use labels::LabelKind;
+use programme::decode::type_in;
+use rules::types::fit_label;
+use rules::types::fit_sort;
 
 // What is there at i, nonsense past the end.
 fn at(have: &[Ty], i: usize) -> Ty

@@ -10,10 +10,10 @@ ghost use lib.ListN.{length, getD};
 ghost use mathlib.Core.List.{map};
 ghost use mathlib.Core.Path.{_≡_};
 use crate::promise::Promise;
-use crate::types::type_in;
 use image::head::Context;
 use image::ty::Sort;
 use image::ty::Ty;
+use programme::decode::type_in;
 use programme::laid_out::LaidOut;
 use programme::parts::SignatureWords;
 

@@ -12,11 +12,11 @@ ghost use mathlib.Core.Bool.{cond};
 ghost use mathlib.Core.List.{map, _++_};
 ghost use mathlib.Core.Path.{_≡_};
 use crate::promise::Promise;
-use crate::types::level;
-use crate::types::type_in;
 use image::head::Context;
 use image::ty::Ty;
+use programme::decode::type_in;
 use rows::Row;
+use rules::types::level;
 
 // What is known before an instruction: the context, and the types of registers and of slots, the top slot first. A block without a
 // signature has no registers, so the registers are a row too.

@@ -1,13 +1,11 @@
 ghost use Rattle.image.specs.declared.ty.Sort.the-variants.{Integer, Pointer, Code};
 ghost use Rattle.image.specs.declared.ty.Ty.the-variants.{Typed};
 ghost use Rattle.rules.specs.Fit.{same-sort, is-integer, is-pointer, is-code, alike, same-context, is-empty, raised-to, fit-sort, fit-label};
-ghost use Rattle.rules.specs.Says.{type-in};
 ghost use Rattle.rules.specs.Types.{level, label-of, over};
 ghost use mathlib.Core.Path.{_≡_};
 use image::head::Context;
 use image::ty::Sort;
 use image::ty::Ty;
-use image::word::Word;
 use labels::LabelKind;
 
 pub fn integer(label: u8) -> Ty
@@ -34,16 +32,6 @@ pub fn code(signature: u8, label: u8) -> Ty
     Ty::Typed {
         sort: Sort::Code { signature },
         label,
-    }
-}
-
-// The type that a word within an item is.
-pub fn type_in(raw: u32) -> Ty
-    ensures { λ r. ⌜ r ≡ type-in raw ⌝ }
-{
-    match Ty::decode(Word::of(raw)) {
-        None => Ty::Nonsense,
-        Some(t) => t,
     }
 }
 
