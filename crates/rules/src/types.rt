@@ -11,10 +11,8 @@ use labels::LabelKind;
 pub fn integer(label: u8) -> Ty
     ensures { λ r. ⌜ r ≡ Typed Integer label ⌝ }
 {
-    Ty::Typed {
-        sort: Sort::Integer,
-        label,
-    }
+    let sort = Sort::Integer;
+    Ty::Typed { sort, label }
 }
 
 pub fn pointer(shape: u8, label: u8) -> Ty
