@@ -1,5 +1,7 @@
 // The card: a small image at stages on which the rules and a run can be followed by hand. Its words are here as code and as a
 // definition, and with them the worked examples: the changes of it that are refused, and its runs.
+#![tactic(auto)]
+
 ghost use Rattle.card.specs.Card.{card as the-card};
 ghost use Rattle.card.specs.Examples.{examples, ExamplesHold};
 ghost use Rattle.std.specs.Prelude.{length, ◌≡◌};

@@ -1,5 +1,7 @@
 // Tries on a real box what no theorem shows: the card's three runs, the rows of refusals that are tried and not proved (an image that is too
 // long; a box that is empty or stopped; a job of the wrong length; a sheet that is too short), and what a refused call leaves.
+#![tactic(auto)]
+
 use card::card;
 use labels::Stage;
 use machine::ran::End;

@@ -1,4 +1,6 @@
 // A page of images that the layout pass refuses, or just takes: each line of the input is an image and what it shows, behind a `#`.
+#![tactic(auto)]
+
 use hextext::read_words;
 use image::items::survey;
 use image::layout::first_fault;

@@ -1,6 +1,8 @@
 // Reads a line of an edition, the list of jobs that a press engineer has run on one image: `job`, with a name and its settings, or
 // `load`. `#` starts a comment. What every line says, and which error answers, is the definition `reading` in specs/Lines.antt;
 // `read_line` is proved to answer that.
+#![tactic(auto)]
+
 ghost use Rattle.std.specs.Prelude.{◌≡◌, ◌≤◌, [], length, Ok, MatchResult};
 ghost use Rattle.edition.specs.Fields.{fields, fields_from};
 ghost use Rattle.edition.specs.Lines.{Refuses, job_from, said_by};

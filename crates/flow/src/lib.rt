@@ -1,5 +1,7 @@
 // The flow pass of programme images: each block is walked from its own signature, with the context and the types that are known before
 // each instruction, and the first broken rule is answered.
+#![tactic(auto)]
+
 mod check;
 mod effect;
 mod fault;

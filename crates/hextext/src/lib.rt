@@ -2,6 +2,8 @@
 // white space. `#` starts a comment, which ends with its line. What is read of every text, and which error answers, is the
 // definition `reading` in specs/Text.antt; `read_words` is proved to answer that, and to read words that are typed as in
 // specs/Typed.antt as those words.
+#![tactic(auto)]
+
 ghost use Rattle.std.specs.Prelude.{◌≡◌, ◌++◌, MatchResult};
 ghost use Rattle.std.specs.Option.{option_to_list};
 ghost use Rattle.hextext.specs.declared.errors.TextError.TheVariants.{Memory};

@@ -1,4 +1,6 @@
 // Programme images as words: what a word says, how it is written, and where it may stand.
+#![tactic(auto)]
+
 pub mod counts;
 pub mod head;
 pub mod instruction;

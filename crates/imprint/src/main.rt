@@ -1,5 +1,7 @@
 // The program that people run: it reads an image as text, lists its items, and says why an image is refused. What it knows of images
 // is in the libraries below it; here are only the arguments, the files and the printing.
+#![tactic(auto)]
+
 mod failure;
 mod usage;
 

@@ -1,4 +1,6 @@
 // The naming pass over a laid out image: each word names only what is there, and each code that stands for a label is one.
+#![tactic(auto)]
+
 mod behind;
 mod check;
 pub mod fault;

@@ -1,6 +1,8 @@
 // Images in words that a setter understands: the listing of items, and the sentence of a refusal.
 //
 // Each struct here holds a value and shows it by its `Display`.
+#![tactic(auto)]
+
 mod listing;
 mod nouns;
 mod refusal;
