@@ -11,5 +11,5 @@ loop-at-preserved c =
     let at = c.loop-at.at in
     let start = c.args.start in
     let part = ap (λ p. cut (at + 1) p (drop (at + 1) text)) (between_more text start at 0 c.loop-at.invariant.0 c.loop-at-test.true) in
-    let more = at_ink text at (between start at text) c.loop-at-test.true (sym c.if-not-is-blank.ensures) in
+    let more = at_ink text at (between start at text) c.loop-at-test.true (sym c.if-not-is_blank.ensures) in
     (omega arith, omega arith, part ∙ sym more ∙ c.loop-at.invariant.2)

@@ -8,6 +8,6 @@ pub returns-in-48 : goal.returns-in-48
 returns-in-48 c =
     let bytes = c.args.bytes.now in
     let hex : hexadecimal bytes ≡ true = grind (arith, nat_tests) in
-    c.value-in.ensures
+    c.value_in.ensures
     ∙ ap (λ ds. capped (value_in 16 ds)) (take_rest bytes 2)
     ∙ ap (λ t. capped (cond t (value_in 16 (drop 2 bytes)) (value_in 10 bytes))) (sym hex)

@@ -4,13 +4,13 @@ use Rattle.edition.specs.Numbers.{capped}
 use Rattle.edition.proofs.Values.{same_capped, at_digit, at_end, some_digits}
 use Rattle.edition.proofs.numbers.value_in.Goals as goal
 
-pub returns-in-default : goal.returns-in-default
-returns-in-default c =
+pub returns-in_default : goal.returns-in_default
+returns-in_default c =
     let base = c.args.base in
     let digits = c.args.digits.now in
     let l = c.loop-byte in
     let some : 0 < length digits = omega arith in
-    let read = at_digit base c.requires.low digits l.byte-index l.value c.loop-byte-test.true None c.in-default.ensures.value in
+    let read = at_digit base c.requires.low digits l.byte-index l.value c.loop-byte-test.true None c.in_default.ensures.value in
     sym (ap capped (some_digits base digits some) ∙ sym l.invariant.1 ∙ ap capped read)
 
 pub loop-byte-preserved : goal.loop-byte-preserved
@@ -29,7 +29,7 @@ returns c =
     let base = c.args.base in
     let digits = c.args.digits.now in
     let l = c.loop-byte in
-    let full = c.if-is-empty.ensures in
+    let full = c.if-is_empty.ensures in
     let some : 0 < length digits = grind (arith, nat_tests) in
     let read = at_end base c.requires.low digits l.byte-index l.value c.loop-byte-test.false in
     let small : l.value ≡ min l.value 4294967296 = omega arith in

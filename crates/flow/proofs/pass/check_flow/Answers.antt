@@ -21,12 +21,12 @@ loop-item-init g c =
     (tt, tt, begins m (words_in c.args.image) r (ap to_come same ∙ c.of-item-items.ensures.items ∙ ap pieces ns) (ap (λ x. x.seen) same ∙ c.of-item-items.ensures.seen) (subst (λ xs. Split xs (pieces xs)) ns c.of-item-items.ensures.split))
 
 pub loop-item-preserved : goal.loop-item-preserved
-loop-item-preserved g c = (tt, tt, goes_on c.loop-item.invariant.2 c.in-Some.item c.in-Some.ensures.steps c.in-ok-check-item.ensures)
+loop-item-preserved g c = (tt, tt, goes_on c.loop-item.invariant.2 c.in-Some.item c.in-Some.ensures.steps c.in_ok-check-item.ensures)
 
-pub returns-in-err-check-item : goal.returns-in-err-check-item
-returns-in-err-check-item g c =
-    let p = err_from_is_err_and c.from-residual.result c.from-residual.ensures.1 in
-    rw (p.1, p.2) (stops c.loop-item.invariant.2 c.in-Some.item c.in-Some.ensures.steps _ c.in-err-check-item.ensures)
+pub returns-in_err-check-item : goal.returns-in_err-check-item
+returns-in_err-check-item g c =
+    let p = err_from_is_err_and c.from_residual.result c.from_residual.ensures.1 in
+    rw (p.1, p.2) (stops c.loop-item.invariant.2 c.in-Some.item c.in-Some.ensures.steps _ c.in_err-check-item.ensures)
 
 pub returns : goal.returns
 returns g c = ends c.loop-item.invariant.2 c.in-None.ensures.steps

@@ -14,14 +14,10 @@ loop-place-preserved c =
     let i = c.loop-place.place in
     let a = c.advanced-s.ensures.count in
     let b = c.advanced-s.ensures.cells in
-    (omega arith, omega arith, ap (λ s. onward (length ns) s (i + 1) (drop (i + 1) ns)) c.advanced-s.ensures.value ∙ sym (more (length ns) ns c.loop-place.s i c.loop-place-test.true c.in-default.ensures) ∙ c.loop-place.invariant.2)
+    (omega arith, omega arith, ap (λ s. onward (length ns) s (i + 1) (drop (i + 1) ns)) c.advanced-s.ensures.value ∙ sym (more (length ns) ns c.loop-place.s i c.loop-place-test.true c.in_default.ensures) ∙ c.loop-place.invariant.2)
 
 pub returns-in-None : goal.returns-in-None
 returns-in-None c =
     let ns = c.args.words.now in
     record { within = search rules; value = ended (length ns) ns c.loop-place.s c.loop-place.place _ c.loop-place-test.false c.in-None.ensures ∙ c.loop-place.invariant.2 }
 
-pub returns-in-Some-end-fault : goal.returns-in-Some-end-fault
-returns-in-Some-end-fault c =
-    let ns = c.args.words.now in
-    record { within = search rules; value = ended (length ns) ns c.loop-place.s c.loop-place.place _ c.loop-place-test.false c.in-Some-end-fault.ensures ∙ c.loop-place.invariant.2 }

@@ -21,8 +21,8 @@ shape-requires c =
     let h : c.loop-n.n < length (programme_of c.args.image).tuples = omega arith in
     shape_there s c.loop-n.n h c.tuple-tuple.result c.tuple-tuple.ensures
 
-pub slice-bounds-lay-tuple-end-in-loop-n : goal.slice-bounds-lay-tuple-end-in-loop-n
-slice-bounds-lay-tuple-end-in-loop-n c =
+pub slice_bounds-lay-tuple-end-in-loop-n : goal.slice_bounds-lay-tuple-end-in-loop-n
+slice_bounds-lay-tuple-end-in-loop-n c =
     let p = programme_of c.args.image in
     let s = sound (words_of c.args.image) c.args.image.sound in
     let n = c.loop-n.n in
@@ -55,8 +55,8 @@ lay-tuple-taken-requires c =
       job = omega (arith, words_left c.loop-n.invariant h, c.requires.job);
     }
 
-pub overflow-add-taken : goal.overflow-add-taken
-overflow-add-taken c =
+pub overflow_add-taken : goal.overflow_add-taken
+overflow_add-taken c =
     let p = programme_of c.args.image in
     let ns = words_of c.args.image in
     let s = sound ns c.args.image.sound in

@@ -9,7 +9,7 @@ returns-in-Some g c =
 
 pub loop-i-preserved : goal.loop-i-preserved
 loop-i-preserved g c =
-    sym (instructions_more (g.K.LabelKind.meaning c.args.kind.now) (program_of c.args.image.now.words.now) c.args.place c.args.words.now c.loop-i.i c.instruction_in.result c.loop-i-test.true c.instruction_in.ensures c.in-default.ensures) ∙ c.loop-i.invariant
+    sym (instructions_more (g.K.LabelKind.meaning c.args.kind.now) (program_of c.args.image.now.words.now) c.args.place c.args.words.now c.loop-i.i c.instruction_in.result c.loop-i-test.true c.instruction_in.ensures c.in_default.ensures) ∙ c.loop-i.invariant
 
 pub returns : goal.returns
 returns g c =

@@ -9,7 +9,7 @@ returns-in-Some c =
 
 pub loop-i-preserved : goal.loop-i-preserved
 loop-i-preserved c =
-    λ m. sym (plains_more m (program_of c.args.image.now.words.now) c.args.place c.args.types.now c.args.words.now c.loop-i.i c.type_in.result c.loop-i-test.true c.requires.cells c.type_in.ensures (c.in-default.ensures m)) ∙ c.loop-i.invariant m
+    λ m. sym (plains_more m (program_of c.args.image.now.words.now) c.args.place c.args.types.now c.args.words.now c.loop-i.i c.type_in.result c.loop-i-test.true c.requires.cells c.type_in.ensures (c.in_default.ensures m)) ∙ c.loop-i.invariant m
 
 pub returns : goal.returns
 returns c =

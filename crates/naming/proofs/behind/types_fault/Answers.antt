@@ -9,7 +9,7 @@ returns-in-Some g c =
 
 pub loop-i-preserved : goal.loop-i-preserved
 loop-i-preserved g c =
-    sym (types_more (g.K.LabelKind.meaning c.args.kind.now) (program_of c.args.image.now.words.now) c.args.place c.args.types.now c.loop-i.i c.type_in.result c.loop-i-test.true c.type_in.ensures c.in-default.ensures) ∙ c.loop-i.invariant
+    sym (types_more (g.K.LabelKind.meaning c.args.kind.now) (program_of c.args.image.now.words.now) c.args.place c.args.types.now c.loop-i.i c.type_in.result c.loop-i-test.true c.type_in.ensures c.in_default.ensures) ∙ c.loop-i.invariant
 
 pub returns : goal.returns
 returns g c =

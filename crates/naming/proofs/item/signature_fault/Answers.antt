@@ -16,4 +16,4 @@ returns g c =
     ∙ ap (λ l. types_named m p (c.args.part.place + 1) (map type_in l)) (take_rest ws 1)
     ∙ ap (λ k. types_named m p k (map type_in (drop 1 ws))) (add-one c.args.part.place)
     ∙ ap (types_named m p (suc c.args.part.place)) (all_types (drop 1 ws))
-    ∙ fine_head c.args.part.place _ _ (c.in-default.ensures ∙ ap (λ k. broken (context_named m p k)) (c.decode.ensures ∙ ap context_of c.of-head.ensures))
+    ∙ fine_head c.args.part.place _ _ (c.in_default.ensures ∙ ap (λ k. broken (context_named m p k)) (c.decode.ensures ∙ ap context_of c.of-head.ensures))

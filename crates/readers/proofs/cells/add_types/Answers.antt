@@ -7,7 +7,7 @@ pub loop-word-preserved : goal.loop-word-preserved
 loop-word-preserved c =
     let words = c.args.words.now in
     let i = c.loop-word.word-index in
-    pushed (map type_in) words i (vec_items c.loop-word.types) _ c.loop-word.invariant 0 c.loop-word-test.true (vec_items c.push.new.self) c.type_in.result c.in-ok-push.ensures.items
+    pushed (map type_in) words i (vec_items c.loop-word.types) _ c.loop-word.invariant 0 c.loop-word-test.true (vec_items c.push.new.self) c.type_in.result c.in_ok-push.ensures.items
     (ap (λ t. t ∷ map type_in (drop (i + 1) words)) (sym c.type_in.ensures))
 
 pub returns : goal.returns

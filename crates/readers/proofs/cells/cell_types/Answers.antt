@@ -14,5 +14,5 @@ loop-item-preserved c =
       tt,
       tt,
       tuple_added p c.in-Tuple.part c.in-Some.item c.in-Tuple.is (to_come c.loop-item.item-iterator) (to_come c.next.new.self) step.item step.rest c.word-at.result c.word-at.ensures c.of_shape.result c.of_shape.ensures
-          (vec_items c.loop-item.types) (vec_items c.add-types.new.types) (map type_in own.result.now) (cell_types p) own.ensures c.in-ok-add-types.ensures c.loop-item.invariant.2,
+          (vec_items c.loop-item.types) (vec_items c.add-types.new.types) (map type_in own.result.now) (cell_types p) own.ensures c.in_ok-add-types.ensures c.loop-item.invariant.2,
     )

@@ -10,9 +10,9 @@ loop-ty-preserved-then-not-is-integer c = let l = c.loop-ty in left_out c.as-sli
 pub loop-ty-preserved : goal.loop-ty-preserved
 loop-ty-preserved c =
     let l = c.loop-ty in
-    filled c.as-slice-cells.result.now l.ty-index (vec_items l.labels) l.invariant c.loop-ty-test.true (vec_items c.push.new.self) c.label-of.result c.if-not-is-integer.ensures c.label-of.ensures c.in-ok-push.ensures.items
+    filled c.as-slice-cells.result.now l.ty-index (vec_items l.labels) l.invariant c.loop-ty-test.true (vec_items c.push.new.self) c.label-of.result c.if-not-is-integer.ensures c.label-of.ensures c.in_ok-push.ensures.items
 
 pub returns : goal.returns
 returns c =
     let cells = c.as-slice-cells.result.now in
-    all_pushed filled_labels cells c.loop-ty.ty-index (vec_items c.loop-ty.labels) (filled_labels cells) c.loop-ty.invariant c.loop-ty-test.false refl ∙ ap filled_labels (c.as-slice-cells.ensures.value ∙ c.in-ok-types.ensures)
+    all_pushed filled_labels cells c.loop-ty.ty-index (vec_items c.loop-ty.labels) (filled_labels cells) c.loop-ty.invariant c.loop-ty-test.false refl ∙ ap filled_labels (c.as-slice-cells.ensures.value ∙ c.in_ok-types.ensures)

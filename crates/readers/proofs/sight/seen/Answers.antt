@@ -15,7 +15,7 @@ pub loop-strike-preserved : goal.loop-strike-preserved
 loop-strike-preserved g c =
     let m = g.K.LabelKind.meaning c.args.kind.now in
     let l = c.loop-strike in
-    sighted m (program_in c.args.image) c.args.reader c.args.strikes.now l.strike-index (vec_items l.sight) l.invariant c.loop-strike-test.true (vec_items c.push.new.self) c.if-not-may-see.ensures c.in-ok-push.ensures.items
+    sighted m (program_in c.args.image) c.args.reader c.args.strikes.now l.strike-index (vec_items l.sight) l.invariant c.loop-strike-test.true (vec_items c.push.new.self) c.if-not-may-see.ensures c.in_ok-push.ensures.items
 
 pub returns : goal.returns
 returns g c =

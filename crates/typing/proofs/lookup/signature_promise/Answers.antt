@@ -4,9 +4,9 @@ use Rattle.rules.specs.Program.{no_signature}
 use Rattle.typing.proofs.Lookups.{named, unnamed}
 use Rattle.typing.proofs.lookup.signature_promise.Goals as goal
 
-pub returns-in-default : goal.returns-in-default
-returns-in-default c =
-    c.no-promise.ensures ∙ unnamed (program_in c.args.image.now).signatures c.args.n no_signature c.in-default.ensures.value
+pub returns-in_default : goal.returns-in_default
+returns-in_default c =
+    c.no-promise.ensures ∙ unnamed (program_in c.args.image.now).signatures c.args.n no_signature c.in_default.ensures.value
 
 pub returns : goal.returns
 returns c =

@@ -8,7 +8,7 @@ returns-in-BadCharacter-clause-writes g c =
     λ plain ok.
     let w = c.write-in-BadCharacter in
     subst (λ e. HasWritten g.W.Write.write_str_gives c.args.f.now (sentence e) w.new.self) (sym c.in-BadCharacter.is)
-    (rw (sym c.hint-at-hint.ensures) (w.ensures.writes plain ok))
+    (rw (sym c.hint_at-hint.ensures) (w.ensures.writes plain ok))
 
 pub returns-in-WordTooLong-clause-writes : goal.returns-in-WordTooLong-clause-writes
 returns-in-WordTooLong-clause-writes g c =

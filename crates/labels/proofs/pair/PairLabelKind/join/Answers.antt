@@ -25,10 +25,10 @@ module _ (g : given.Over) (c : goal.After-count-n g) where
   right =
       up_is_joined first second (g.met.A.LabelKind.lawful c.args.self.now.first)
       (g.met.B.LabelKind.lawful c.args.self.now.second) c.args.a c.args.b
-      (subst T (sym c.if-not-are-labels.false ∙ c.are-labels.ensures) tt)
+      (subst T (sym c.if-not-are_labels.false ∙ c.are_labels.ensures) tt)
 
-pub overflow-cast-result-3 : goal.overflow-cast-result-3
-overflow-cast-result-3 g c = omega (arith, made g c, (right g c).1)
+pub overflow_cast-result-3 : goal.overflow_cast-result-3
+overflow_cast-result-3 g c = omega (arith, made g c, (right g c).1)
 
 pub returns : goal.returns
 returns g c = made g c ∙ (right g c).0

@@ -24,11 +24,11 @@ returns-then-left-eq0 c =
     let few = counts_few ok (to_come c.into-iter-item-iterator.result) ps whole c.loop-item.base c.loop-item.left c.args.tuple c.loop-item.invariant.3 in
     record { value = counts_all ok (to_come c.into-iter-item-iterator.result) ps whole c.loop-item.base c.loop-item.left c.args.tuple c.loop-item.invariant.3 none; few = omega arith }
 
-pub overflow-sub-base : goal.overflow-sub-base
-overflow-sub-base c = omega (arith, tuple_some c.in-Some.item c.in-Tuple.part c.in-Tuple.is (to_come c.loop-item.item-iterator) c.in-Some.ensures.steps.item c.loop-item.invariant.2)
+pub overflow_sub-base : goal.overflow_sub-base
+overflow_sub-base c = omega (arith, tuple_some c.in-Some.item c.in-Tuple.part c.in-Tuple.is (to_come c.loop-item.item-iterator) c.in-Some.ensures.steps.item c.loop-item.invariant.2)
 
-pub overflow-add-base : goal.overflow-add-base
-overflow-add-base c =
+pub overflow_add-base : goal.overflow_add-base
+overflow_add-base c =
     let ps = to_come c.loop-item.item-iterator in
     let whole = ap to_come c.into-iter-item-iterator.ensures.into-iter-gives ∙ c.of-item-items.ensures.items ∙ ap pieces c.words.ensures in
     let ok = sound (words_of c.args.self) c.args.self.sound in
@@ -49,7 +49,7 @@ pub loop-item-preserved : goal.loop-item-preserved
 loop-item-preserved c =
     let ps = to_come c.loop-item.item-iterator in
     let rest = c.in-Some.ensures.steps.rest in
-    let passed = ap (λ ts. base_in ts c.loop-item.left) (skipped c.in-Some.item ps c.in-Some.ensures.steps.item c.in-default.not-Tuple) in
+    let passed = ap (λ ts. base_in ts c.loop-item.left) (skipped c.in-Some.item ps c.in-Some.ensures.steps.item c.in_default.not-Tuple) in
     let same = ap (λ ps. base_in (program ps).tuples c.loop-item.left) rest in
     let inv = c.loop-item.invariant.3 in
     (tt, tt, subst (Every Limited) (sym rest) (others_limited ps c.loop-item.invariant.2), omega arith)

@@ -14,8 +14,8 @@ shape-shape-requires c =
     let h : c.loop-n.n < length (programme_of c.args.self).tuples = omega arith in
     shape_there s c.loop-n.n h c.tuple-tuple.result c.tuple-tuple.ensures
 
-pub overflow-add-count : goal.overflow-add-count
-overflow-add-count c =
+pub overflow_add-count : goal.overflow_add-count
+overflow_add-count c =
     let p = programme_of c.args.self in
     let s = sound (words_of c.args.self) c.args.self.sound in
     let n = c.loop-n.n in
