@@ -21,8 +21,8 @@ shape-requires c =
     let h : c.loop-n.n < length (programme_of c.args.image).tuples = omega arith in
     shape_there s c.loop-n.n h c.tuple-tuple.result c.tuple-tuple.ensures
 
-pub slice_bounds-lay-tuple-end-in-loop-n : goal.slice_bounds-lay-tuple-end-in-loop-n
-slice_bounds-lay-tuple-end-in-loop-n c =
+pub slice_bounds-lay_tuple-end-in-loop-n : goal.slice_bounds-lay_tuple-end-in-loop-n
+slice_bounds-lay_tuple-end-in-loop-n c =
     let p = programme_of c.args.image in
     let s = sound (words_of c.args.image) c.args.image.sound in
     let n = c.loop-n.n in
@@ -31,8 +31,8 @@ slice_bounds-lay-tuple-end-in-loop-n c =
     let fits : c.loop-n.cell + length c.tuple-tuple.result.words.now ≤ length c.loop-n.sheet = omega (arith, cells_left c.loop-n.invariant h, c.requires.room, c.loop-n.invariant.long) in
     search rules
 
-pub lay-tuple-taken-requires : goal.lay-tuple-taken-requires
-lay-tuple-taken-requires c =
+pub lay_tuple-taken-requires : goal.lay_tuple-taken-requires
+lay_tuple-taken-requires c =
     let p = programme_of c.args.image in
     let s = sound (words_of c.args.image) c.args.image.sound in
     let n = c.loop-n.n in
@@ -63,7 +63,7 @@ overflow_add-taken c =
     let n = c.loop-n.n in
     let h : n < length p.tuples = omega arith in
     let types = ap (λ ts. length (filled_labels ts)) (types_are s n h c.tuple-tuple.result c.tuple-tuple.ensures c.shape.result c.shape.ensures) in
-    omega (arith, words_left c.loop-n.invariant h, few_filled ns s, c.lay-tuple-taken.ensures.taken)
+    omega (arith, words_left c.loop-n.invariant h, few_filled ns s, c.lay_tuple-taken.ensures.taken)
 
 pub loop-n-preserved : goal.loop-n-preserved
 loop-n-preserved c =
@@ -77,10 +77,10 @@ loop-n-preserved c =
     let types = types_are s n h t te x c.shape.ensures in
     let job = c.args.job.now in
     let taken = c.loop-n.taken in
-    lay_more c.loop-n.invariant h (exact s n h) c.requires.room (length t.words.now) (c.loop-n.cell + length t.words.now - c.loop-n.cell) c.lay-tuple-taken.result c.lay-tuple-taken.new.cells
+    lay_more c.loop-n.invariant h (exact s n h) c.requires.room (length t.words.now) (c.loop-n.cell + length t.words.now - c.loop-n.cell) c.lay_tuple-taken.result c.lay_tuple-taken.new.cells
     (words_exact s n h t te) (omega arith)
-    (c.lay-tuple-taken.ensures.taken ∙ ap (λ ts. length (filled_labels ts)) types)
-    (c.lay-tuple-taken.ensures.cells ∙ ap (λ ts. laid ts t.words.now (take (length job - taken) (drop taken job))) types ∙ ap (λ ws. laid (shape_at p (tuple_at p n).shape) ws (take (length job - taken) (drop taken job))) (words_are s n h t te) ∙ ap (laid (shape_at p (tuple_at p n).shape) (tuple_at p n).words) (take_rest job taken))
+    (c.lay_tuple-taken.ensures.taken ∙ ap (λ ts. length (filled_labels ts)) types)
+    (c.lay_tuple-taken.ensures.cells ∙ ap (λ ts. laid ts t.words.now (take (length job - taken) (drop taken job))) types ∙ ap (λ ws. laid (shape_at p (tuple_at p n).shape) ws (take (length job - taken) (drop taken job))) (words_are s n h t te) ∙ ap (laid (shape_at p (tuple_at p n).shape) (tuple_at p n).words) (take_rest job taken))
 
 pub returns : goal.returns
 returns c =

@@ -7,7 +7,7 @@ use Rattle.rules.specs.Says.{type_in}
 use Rattle.machine.specs.Cells.{filled_labels}
 use Rattle.machine.proofs.Laying.{fill_job, fill_plain, filled_all, taken_all, job_left}
 use Rattle.machine.proofs.lay.lay_tuple.Goals as goal
-use Rattle.machine.proofs.lay.lay_tuple.Goals.{then-is-integer, else-is-integer}
+use Rattle.machine.proofs.lay.lay_tuple.Goals.{then-is_integer, else-is_integer}
 
 pub loop-n-init : goal.loop-n-init
 loop-n-init c =
@@ -19,7 +19,7 @@ bounds-job-taken c =
     let types = c.args.types.now in
     let here : c.loop-n.n < length (map type_in types) = omega (arith, length-map types type_in, c.loop-n-test.true) in
     let n = c.loop-n.n in
-    job_left c.loop-n.invariant here (ap is_integer (get_or-map type_in types n 0 Nonsense c.loop-n-test.true) ∙ sym c.is_integer.ensures ∙ c.if-is-integer.true) c.requires.job
+    job_left c.loop-n.invariant here (ap is_integer (get_or-map type_in types n 0 Nonsense c.loop-n-test.true) ∙ sym c.is_integer.ensures ∙ c.if-is_integer.true) c.requires.job
 
 pub loop-n-preserved : goal.loop-n-preserved
 loop-n-preserved c =
@@ -27,9 +27,9 @@ loop-n-preserved c =
     let n = c.loop-n.n in
     let here : n < length (map type_in types) = omega (arith, length-map types type_in, c.loop-n-test.true) in
     let same = ap is_integer (get_or-map type_in types n 0 Nonsense c.loop-n-test.true) ∙ sym c.is_integer.ensures in
-    elim c.if-is-integer.branch [
-      | then-is-integer w ↦ rw (w.cells-is, w.taken-is) (fill_job c.loop-n.invariant here (same ∙ w.if-is-integer.true))
-      | else-is-integer w ↦ rw (w.cells-is, w.taken-is) (fill_plain c.loop-n.invariant here (same ∙ w.if-is-integer.false))
+    elim c.if-is_integer.branch [
+      | then-is_integer w ↦ rw (w.cells-is, w.taken-is) (fill_job c.loop-n.invariant here (same ∙ w.if-is_integer.true))
+      | else-is_integer w ↦ rw (w.cells-is, w.taken-is) (fill_plain c.loop-n.invariant here (same ∙ w.if-is_integer.false))
     ]
 
 pub returns : goal.returns

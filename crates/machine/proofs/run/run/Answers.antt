@@ -32,27 +32,27 @@ first-requires c =
     let s = state_of c.loop-steps.memory c.loop-steps.cells in
     let is = body_of c.loop-steps.rest.now in
     let ok = sound (words_of c.args.image) c.args.image.sound in
-    some_words c.past-raises-here.result.now (λ z. ready_some ok s (past is) (ready_past ok s is c.loop-steps.invariant.ready) (sym c.past-raises-here.ensures ∙ z))
+    some_words c.past_raises-here.result.now (λ z. ready_some ok s (past is) (ready_past ok s is c.loop-steps.invariant.ready) (sym c.past_raises-here.ensures ∙ z))
 
 pub obey-requires : goal.obey-requires
 obey-requires c =
     let s = state_of c.loop-steps.memory c.loop-steps.cells in
     let is = body_of c.loop-steps.rest.now in
-    let js = body_of (drop 1 c.past-raises-here.result.now) in
+    let js = body_of (drop 1 c.past_raises-here.result.now) in
     let ok = sound (words_of c.args.image) c.args.image.sound in
-    let here = sym c.past-raises-here.ensures ∙ c.first.ensures in
+    let here = sym c.past_raises-here.ensures ∙ c.first.ensures in
     ready_can ok s c.first.result js (subst (Ready (programme_of c.args.image) s) here (ready_past ok s is c.loop-steps.invariant.ready)) (past_first is js c.first.result here)
 
 pub returns-in-Stop : goal.returns-in-Stop
 returns-in-Stop c =
     let s = state_of c.loop-steps.memory c.loop-steps.cells in
-    let deed = faced (programme_of c.args.image) s (body_of c.loop-steps.rest.now) c.past-raises-here.result.now c.first.result c.past-raises-here.ensures c.first.ensures in
+    let deed = faced (programme_of c.args.image) s (body_of c.loop-steps.rest.now) c.past_raises-here.result.now c.first.result c.past_raises-here.ensures c.first.ensures in
     going_stops c.loop-steps.invariant c.loop-steps-test.true (deed ∙ c.in-Stop.ensures.0) c.obey.new.cells c.in-Stop.ensures.1
 
 pub returns-then-strikes-strip : goal.returns-then-strikes-strip
 returns-then-strikes-strip c =
     let s = state_of c.loop-steps.memory c.loop-steps.cells in
-    let deed = faced (programme_of c.args.image) s (body_of c.loop-steps.rest.now) c.past-raises-here.result.now c.first.result c.past-raises-here.ensures c.first.ensures in
+    let deed = faced (programme_of c.args.image) s (body_of c.loop-steps.rest.now) c.past_raises-here.result.now c.first.result c.past_raises-here.ensures c.first.ensures in
     going_full c.loop-steps.invariant c.loop-steps-test.true c.in-Struck.strike (body_of c.in-Struck.words.now) (state_of c.obey.new.self c.obey.new.cells) (deed ∙ c.in-Struck.ensures.0) c.if-strikes-strip.true c.obey.new.cells c.in-Struck.ensures.1
 
 pub loop-steps-preserved : goal.loop-steps-preserved
@@ -61,7 +61,7 @@ loop-steps-preserved c =
     let t = state_of c.obey.new.self c.obey.new.cells in
     let is = body_of c.loop-steps.rest.now in
     let ok = sound (words_of c.args.image) c.args.image.sound in
-    let deed = faced (programme_of c.args.image) s is c.past-raises-here.result.now c.first.result c.past-raises-here.ensures c.first.ensures in
+    let deed = faced (programme_of c.args.image) s is c.past_raises-here.result.now c.first.result c.past_raises-here.ensures c.first.ensures in
     let ready = ready_next ok s is c.loop-steps.invariant.ready in
     elim c.match-obey.branch [
       | in-Go w ↦ rw (w.strip-is, w.rest-is, w.strikes-is) (going_goes c.loop-steps.invariant c.loop-steps-test.true (body_of w.in-Go.words.now) t (deed ∙ w.in-Go.ensures) (subst (DeedReady ok) (deed ∙ w.in-Go.ensures) ready))

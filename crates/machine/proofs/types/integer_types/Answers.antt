@@ -7,7 +7,7 @@ use Rattle.rules.specs.Says.{type_in}
 use Rattle.machine.specs.Cells.{filled_labels}
 use Rattle.machine.proofs.Counting.{filled_at}
 use Rattle.machine.proofs.types.integer_types.Goals as goal
-use Rattle.machine.proofs.types.integer_types.Goals.{then-is-integer, else-is-integer}
+use Rattle.machine.proofs.types.integer_types.Goals.{then-is_integer, else-is_integer}
 
 pub loop-word-preserved : goal.loop-word-preserved
 loop-word-preserved c =
@@ -15,9 +15,9 @@ loop-word-preserved c =
     let i = c.loop-word.word-index in
     let here : i < length (map type_in types) = omega (arith, length-map types type_in, c.loop-word-test.true) in
     let same = ap is_integer (get_or-map type_in types i 0 Nonsense c.loop-word-test.true) ∙ sym c.is_integer.ensures in
-    elim c.if-is-integer.branch [
-      | then-is-integer w ↦ (omega (arith, w.count-is), omega (arith, w.count-is, filled_at (map type_in types) i here true (same ∙ w.if-is-integer.true)))
-      | else-is-integer w ↦ (omega (arith, w.count-is), omega (arith, w.count-is, filled_at (map type_in types) i here false (same ∙ w.if-is-integer.false)))
+    elim c.if-is_integer.branch [
+      | then-is_integer w ↦ (omega (arith, w.count-is), omega (arith, w.count-is, filled_at (map type_in types) i here true (same ∙ w.if-is_integer.true)))
+      | else-is_integer w ↦ (omega (arith, w.count-is), omega (arith, w.count-is, filled_at (map type_in types) i here false (same ∙ w.if-is_integer.false)))
     ]
 
 pub returns : goal.returns

@@ -5,12 +5,12 @@ use Rattle.machine.specs.Raises.{past}
 use Rattle.machine.proofs.Facing.{raise_passed, none_passed}
 use Rattle.machine.proofs.words.past_raises.Goals as goal
 
-pub returns-then-not-is-raise : goal.returns-then-not-is-raise
-returns-then-not-is-raise c =
+pub returns-then-not-is_raise : goal.returns-then-not-is_raise
+returns-then-not-is_raise c =
     let ns = c.args.words.now in
     let at = c.loop-at.at in
     let here = take (length ns - at) (drop at ns) in
-    sym (none_passed (body_of here) (body_of (drop 1 here)) c.first.result c.first.ensures (sym c.if-not-is-raise.ensures))
+    sym (none_passed (body_of here) (body_of (drop 1 here)) c.first.result c.first.ensures (sym c.if-not-is_raise.ensures))
     ∙ ap (λ ws. past (body_of ws)) (take_rest ns at)
     ∙ c.loop-at.invariant
 
@@ -20,7 +20,7 @@ loop-at-preserved c =
     let at = c.loop-at.at in
     let here = take (length ns - at) (drop at ns) in
     ap (λ ws. past (body_of ws)) (sym (ap (drop 1) (take_rest ns at) ∙ drop-drop 1 at ns))
-    ∙ sym (raise_passed (body_of here) (body_of (drop 1 here)) c.first.result c.first.ensures (sym c.if-not-is-raise.ensures))
+    ∙ sym (raise_passed (body_of here) (body_of (drop 1 here)) c.first.result c.first.ensures (sym c.if-not-is_raise.ensures))
     ∙ ap (λ ws. past (body_of ws)) (take_rest ns at)
     ∙ c.loop-at.invariant
 

@@ -10,5 +10,5 @@ use Rattle.naming.proofs.check.check_names.Goals as goal
 pub loop-item-init : goal.loop-item-init
 loop-item-init g c =
     let ns = c.args.image.words.now in
-    let all : to_come c.into-iter-item-iterator.result ≡ pieces ns = ap to_come c.into-iter-item-iterator.ensures.into-iter-gives ∙ c.of-item-items.ensures.items ∙ ap pieces c.words.ensures in
+    let all : to_come c.into_iter-item-iterator.result ≡ pieces ns = ap to_come c.into_iter-item-iterator.ensures.into_iter_gives ∙ c.of-item-items.ensures.items ∙ ap pieces c.words.ensures in
     (tt, tt, subst (Every (InImage (length ns))) (sym all) (in_image ns), ap (naming (g.K.LabelKind.meaning c.args.kind.now) (program_of ns)) all)

@@ -11,7 +11,7 @@ returns g c =
     let m = g.K.LabelKind.meaning c.args.kind.now in
     let p = program_of c.args.image.now.words.now in
     let ws = c.args.part.words.now in
-    c.instructions-fault.ensures
+    c.instructions_fault.ensures
     ∙ ap (λ l. instructions_named m p (c.args.part.place + 1) (body_of l)) (take_rest ws 1)
     ∙ ap (λ k. instructions_named m p k (body_of (drop 1 ws))) (add-one c.args.part.place)
     ∙ fine_head c.args.part.place _ _ (c.in_default.ensures ∙ ap (λ h. broken (block_named m p c.args.part.number (record { signature = h.b; body = body_of (drop 1 ws) }))) c.of-head.ensures)

@@ -15,6 +15,6 @@ returns c =
     let p = program_of c.args.image.now.words.now in
     let ts = c.args.shape.types.now in
     λ m.
-    c.plains-fault.ensures m
+    c.plains_fault.ensures m
     ∙ ap (λ k. plains_named m p (map type_in ts) k c.args.words.now) (add-one c.args.place)
     ∙ same_count m p (map type_in ts) c.args.place c.args.words.now (c.if-words-shape.false ∙ sym (length-map ts type_in))

@@ -12,7 +12,7 @@ returns g c =
     let m = g.K.LabelKind.meaning c.args.kind.now in
     let p = program_of c.args.image.now.words.now in
     let ws = c.args.part.words.now in
-    c.types-fault.ensures
+    c.types_fault.ensures
     ∙ ap (λ l. types_named m p (c.args.part.place + 1) (map type_in l)) (take_rest ws 1)
     ∙ ap (λ k. types_named m p k (map type_in (drop 1 ws))) (add-one c.args.part.place)
     ∙ ap (types_named m p (suc c.args.part.place)) (all_types (drop 1 ws))

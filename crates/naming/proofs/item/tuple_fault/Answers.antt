@@ -23,7 +23,7 @@ returns-in-Some c =
     let ns = drop 1 x.words.now in
     let ts = shape_spelled c.in-Some.shape in
     λ m.
-    c.filled-fault.ensures m
+    c.filled_fault.ensures m
     ∙ ap (filled_named m p ts x.place) (take_rest x.words.now 1)
     ∙ of_shape m p x.number x.place c.of-head.result.c ns ts c.in-Some.ensures.value
     ∙ ap (λ h. part_named m p x.number x.place (a_tuple (record { shape = h.c; words = ns }))) c.of-head.ensures

@@ -6,9 +6,9 @@ use Rattle.typing.proofs.lookup.signature_promise.Goals as goal
 
 pub returns-in_default : goal.returns-in_default
 returns-in_default c =
-    c.no-promise.ensures ∙ unnamed (program_in c.args.image.now).signatures c.args.n no_signature c.in_default.ensures.value
+    c.no_promise.ensures ∙ unnamed (program_in c.args.image.now).signatures c.args.n no_signature c.in_default.ensures.value
 
 pub returns : goal.returns
 returns c =
-    c.promise-of.ensures
+    c.promise_of.ensures
     ∙ named (program_in c.args.image.now).signatures c.args.n (signature_spelled c.in-Some.found) no_signature c.in-Some.ensures.value

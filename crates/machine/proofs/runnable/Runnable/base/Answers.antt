@@ -12,17 +12,17 @@ use Rattle.machine.proofs.runnable.Runnable.base.Goals as goal
 
 pub loop-item-init : goal.loop-item-init
 loop-item-init c =
-    let whole : to_come c.into-iter-item-iterator.result ≡ pieces (words_of c.args.self) = ap to_come c.into-iter-item-iterator.ensures.into-iter-gives ∙ c.of-item-items.ensures.items ∙ ap pieces c.words.ensures in
+    let whole : to_come c.into_iter-item-iterator.result ≡ pieces (words_of c.args.self) = ap to_come c.into_iter-item-iterator.ensures.into_iter_gives ∙ c.of-item-items.ensures.items ∙ ap pieces c.words.ensures in
     (tt, tt, subst (Every Limited) (sym whole) (within_limits (words_of c.args.self)), zero-add _)
 
 pub returns-then-left-eq0 : goal.returns-then-left-eq0
 returns-then-left-eq0 c =
     let ps = to_come c.loop-item.item-iterator in
-    let whole = ap to_come c.into-iter-item-iterator.ensures.into-iter-gives ∙ c.of-item-items.ensures.items ∙ ap pieces c.words.ensures in
+    let whole = ap to_come c.into_iter-item-iterator.ensures.into_iter_gives ∙ c.of-item-items.ensures.items ∙ ap pieces c.words.ensures in
     let ok = sound (words_of c.args.self) c.args.self.sound in
     let none = ap (base_in (program ps).tuples) c.if-left-eq0.true ∙ tuple_here c.in-Some.item c.in-Tuple.part c.in-Tuple.is ps c.in-Some.ensures.steps.item in
-    let few = counts_few ok (to_come c.into-iter-item-iterator.result) ps whole c.loop-item.base c.loop-item.left c.args.tuple c.loop-item.invariant.3 in
-    record { value = counts_all ok (to_come c.into-iter-item-iterator.result) ps whole c.loop-item.base c.loop-item.left c.args.tuple c.loop-item.invariant.3 none; few = omega arith }
+    let few = counts_few ok (to_come c.into_iter-item-iterator.result) ps whole c.loop-item.base c.loop-item.left c.args.tuple c.loop-item.invariant.3 in
+    record { value = counts_all ok (to_come c.into_iter-item-iterator.result) ps whole c.loop-item.base c.loop-item.left c.args.tuple c.loop-item.invariant.3 none; few = omega arith }
 
 pub overflow_sub-base : goal.overflow_sub-base
 overflow_sub-base c = omega (arith, tuple_some c.in-Some.item c.in-Tuple.part c.in-Tuple.is (to_come c.loop-item.item-iterator) c.in-Some.ensures.steps.item c.loop-item.invariant.2)
@@ -30,9 +30,9 @@ overflow_sub-base c = omega (arith, tuple_some c.in-Some.item c.in-Tuple.part c.
 pub overflow_add-base : goal.overflow_add-base
 overflow_add-base c =
     let ps = to_come c.loop-item.item-iterator in
-    let whole = ap to_come c.into-iter-item-iterator.ensures.into-iter-gives ∙ c.of-item-items.ensures.items ∙ ap pieces c.words.ensures in
+    let whole = ap to_come c.into_iter-item-iterator.ensures.into_iter_gives ∙ c.of-item-items.ensures.items ∙ ap pieces c.words.ensures in
     let ok = sound (words_of c.args.self) c.args.self.sound in
-    let few = counts_few ok (to_come c.into-iter-item-iterator.result) ps whole c.loop-item.base c.loop-item.left c.args.tuple c.loop-item.invariant.3 in
+    let few = counts_few ok (to_come c.into_iter-item-iterator.result) ps whole c.loop-item.base c.loop-item.left c.args.tuple c.loop-item.invariant.3 in
     let passed = tuple_passed c.in-Some.item c.in-Tuple.part c.in-Tuple.is ps c.in-Some.ensures.steps.item c.loop-item.left c.if-left-eq0.false c.loop-item.invariant.2 in
     omega arith
 
@@ -57,8 +57,8 @@ loop-item-preserved c =
 pub returns : goal.returns
 returns c =
     let ps = to_come c.loop-item.item-iterator in
-    let whole = ap to_come c.into-iter-item-iterator.ensures.into-iter-gives ∙ c.of-item-items.ensures.items ∙ ap pieces c.words.ensures in
+    let whole = ap to_come c.into_iter-item-iterator.ensures.into_iter_gives ∙ c.of-item-items.ensures.items ∙ ap pieces c.words.ensures in
     let ok = sound (words_of c.args.self) c.args.self.sound in
     let none = ap (λ ps. base_in (program ps).tuples c.loop-item.left) (none_left ps c.in-None.ensures.steps.item) in
-    let few = counts_few ok (to_come c.into-iter-item-iterator.result) ps whole c.loop-item.base c.loop-item.left c.args.tuple c.loop-item.invariant.3 in
-    record { value = counts_all ok (to_come c.into-iter-item-iterator.result) ps whole c.loop-item.base c.loop-item.left c.args.tuple c.loop-item.invariant.3 none; few = omega arith }
+    let few = counts_few ok (to_come c.into_iter-item-iterator.result) ps whole c.loop-item.base c.loop-item.left c.args.tuple c.loop-item.invariant.3 in
+    record { value = counts_all ok (to_come c.into_iter-item-iterator.result) ps whole c.loop-item.base c.loop-item.left c.args.tuple c.loop-item.invariant.3 none; few = omega arith }

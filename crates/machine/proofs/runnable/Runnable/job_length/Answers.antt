@@ -21,7 +21,7 @@ overflow_add-count c =
     let n = c.loop-n.n in
     let h : n < length p.tuples = omega arith in
     let types = ap (λ ts. length (filled_labels ts)) (types_are s n h c.tuple-tuple.result c.tuple-tuple.ensures c.shape-shape.result c.shape-shape.ensures) in
-    omega (arith, c.integer-types-count.ensures.value, filled_more p n h, few_filled (words_of c.args.self) s)
+    omega (arith, c.integer_types-count.ensures.value, filled_more p n h, few_filled (words_of c.args.self) s)
 
 pub loop-n-preserved : goal.loop-n-preserved
 loop-n-preserved c =
@@ -30,7 +30,7 @@ loop-n-preserved c =
     let n = c.loop-n.n in
     let h : n < length p.tuples = omega arith in
     let types = ap (λ ts. length (filled_labels ts)) (types_are s n h c.tuple-tuple.result c.tuple-tuple.ensures c.shape-shape.result c.shape-shape.ensures) in
-    omega (arith, c.integer-types-count.ensures.value, filled_more p n h)
+    omega (arith, c.integer_types-count.ensures.value, filled_more p n h)
 
 pub returns : goal.returns
 returns c =
