@@ -13,8 +13,8 @@ returns g c =
     let p = program_in c.args.image.now in
     let ns = c.args.part.words.now in
     let place = c.args.part.place in
-    let start = promised c.signature-promise-start.result in
-    c.check-words.ensures
+    let start = promised c.signature_promise-start.result in
+    c.check_words.ensures
     ∙ ap (λ ws. body_flow m p start (place + 1) (body_of ws)) (take_rest ns 1)
     ∙ ap (λ n. body_flow m p start n (body_of (drop 1 ns))) (add-one place)
-    ∙ ap (λ s. body_flow m p s (suc place) (body_of (drop 1 ns))) (c.signature-promise-start.ensures ∙ ap (λ w. signature_at p w.b) c.of.ensures)
+    ∙ ap (λ s. body_flow m p s (suc place) (body_of (drop 1 ns))) (c.signature_promise-start.ensures ∙ ap (λ w. signature_at p w.b) c.of.ensures)

@@ -19,14 +19,14 @@ loop-i-init g c =
 
 pub returns-in-Some : goal.returns-in-Some
 returns-in-Some g c =
-    found c.loop-i.invariant c.instruction-in-instruction.result (body_more c.args.words.now c.loop-i.i c.loop-i-test.true c.instruction-in-instruction.result c.instruction-in-instruction.ensures) c.in-Some.rule c.in-Some.ensures
+    found c.loop-i.invariant c.instruction_in-instruction.result (body_more c.args.words.now c.loop-i.i c.loop-i-test.true c.instruction_in-instruction.result c.instruction_in-instruction.ensures) c.in-Some.rule c.in-Some.ensures
 
 pub advance-requires : goal.advance-requires
 advance-requires g c = sym c.in_default.ensures
 
 pub loop-i-preserved : goal.loop-i-preserved
 loop-i-preserved g c =
-    more c.loop-i.invariant c.instruction-in-instruction.result (body_more c.args.words.now c.loop-i.i c.loop-i-test.true c.instruction-in-instruction.result c.instruction-in-instruction.ensures) c.in_default.ensures (known c.advance.new.s) c.advance.ensures
+    more c.loop-i.invariant c.instruction_in-instruction.result (body_more c.args.words.now c.loop-i.i c.loop-i-test.true c.instruction_in-instruction.result c.instruction_in-instruction.ensures) c.in_default.ensures (known c.advance.new.s) c.advance.ensures
 
 pub returns : goal.returns
 returns g c = ended c.loop-i.invariant (body_all c.args.words.now c.loop-i.i c.loop-i-test.false)

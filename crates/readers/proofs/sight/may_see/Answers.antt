@@ -4,4 +4,4 @@ use Rattle.readers.proofs.sight.may_see.Goals as goal
 
 pub returns : goal.returns
 returns g c =
-    tested (g.K.LabelKind.meaning c.args.kind.now) c.args.reader (program_in c.args.image).channels c.args.channel c.channel.result c.unwrap-or-label.result c.at-or-below.result c.channel.ensures c.unwrap-or-label.ensures c.at-or-below.ensures
+    tested (g.K.LabelKind.meaning c.args.kind.now) c.args.reader (program_in c.args.image).channels c.args.channel c.channel.result c.unwrap_or-label.result c.at_or_below.result c.channel.ensures c.unwrap_or-label.ensures c.at_or_below.ensures

@@ -5,17 +5,17 @@ use Rattle.readers.proofs.Pushing.{all_pushed}
 use Rattle.readers.proofs.Sighting.{hidden, sighted}
 use Rattle.readers.proofs.sight.seen.Goals as goal
 
-pub loop-strike-preserved-then-not-may-see : goal.loop-strike-preserved-then-not-may-see
-loop-strike-preserved-then-not-may-see g c =
+pub loop-strike-preserved-then-not-may_see : goal.loop-strike-preserved-then-not-may_see
+loop-strike-preserved-then-not-may_see g c =
     let m = g.K.LabelKind.meaning c.args.kind.now in
     let l = c.loop-strike in
-    hidden m (program_in c.args.image) c.args.reader c.args.strikes.now l.strike-index (vec_items l.sight) l.invariant c.loop-strike-test.true c.if-not-may-see.ensures
+    hidden m (program_in c.args.image) c.args.reader c.args.strikes.now l.strike-index (vec_items l.sight) l.invariant c.loop-strike-test.true c.if-not-may_see.ensures
 
 pub loop-strike-preserved : goal.loop-strike-preserved
 loop-strike-preserved g c =
     let m = g.K.LabelKind.meaning c.args.kind.now in
     let l = c.loop-strike in
-    sighted m (program_in c.args.image) c.args.reader c.args.strikes.now l.strike-index (vec_items l.sight) l.invariant c.loop-strike-test.true (vec_items c.push.new.self) c.if-not-may-see.ensures c.in_ok-push.ensures.items
+    sighted m (program_in c.args.image) c.args.reader c.args.strikes.now l.strike-index (vec_items l.sight) l.invariant c.loop-strike-test.true (vec_items c.push.new.self) c.if-not-may_see.ensures c.in_ok-push.ensures.items
 
 pub returns : goal.returns
 returns g c =
