@@ -7,8 +7,8 @@ pub keep-requires : goal.keep-requires
 keep-requires g c =
     let m = g.K.LabelKind.meaning c.args.kind.now in
     let ns = c.args.image.now in
-    let l = c.in_ok-laid-out.ensures.finding in
-    let same = c.in_ok-laid-out.ensures.kept in
-    let n = c.in_ok-check-names.ensures ∙ ap (naming_of m) same in
-    let f = c.in_ok-check-flow.ensures ∙ ap (flow_of m) same in
+    let l = c.in_ok-laid_out.ensures.finding in
+    let same = c.in_ok-laid_out.ensures.kept in
+    let n = c.in_ok-check_names.ensures ∙ ap (naming_of m) same in
+    let f = c.in_ok-check_flow.ensures ∙ ap (flow_of m) same in
     record { fine = may_be_kept m ns l n f; few = short ns l }

@@ -12,7 +12,7 @@ use Rattle.press_box.proofs.store.ImageStore.run.Goals as goal
 pub run-ran-requires : goal.run-ran-requires
 run-ran-requires c =
     let p = program_of (words_in c.of-image.result.image) in
-    subst (CellsHold p) (sym (front _ _ _ _ c.lay-cells.ensures.sheet (c.cell-count-cells.ensures.value ∙ sym c.lay-cells.ensures.hold.count))) c.lay-cells.ensures.hold
+    subst (CellsHold p) (sym (front _ _ _ _ c.lay_cells.ensures.sheet (c.cell_count-cells.ensures.value ∙ sym c.lay_cells.ensures.hold.count))) c.lay_cells.ensures.hold
 
 pub returns : goal.returns
 returns c =
@@ -21,17 +21,17 @@ returns c =
     let o = order c.args.job.now c.args.fuel c.args.strip.now c.args.sheet.now in
     leaves p b o
     (record {
-      count = c.cell-count-cells.ensures.value;
-      holds = c.lay-cells.ensures.hold;
-      front_laid = c.lay-cells.ensures.sheet;
+      count = c.cell_count-cells.ensures.value;
+      holds = c.lay_cells.ensures.hold;
+      front_laid = c.lay_cells.ensures.sheet;
       length_kept = c.run-ran.auto.cells;
-      stops = c.stops-box-self.ensures;
+      stops = c.stops_box-self.ensures;
       comes = c.run-ran.ensures;
     })
     (record {
       holds_image = search (rules, length-take);
       free = c.if-self.false;
-      job = c.if-job-job-length.false ∙ c.job-length.ensures.value;
-      room = subst (λ (n : ℕ). n ≤ length c.args.sheet.now) c.cell-count-cells.ensures.value c.if-sheet-cells.false;
+      job = c.if-job-job_length.false ∙ c.job_length.ensures.value;
+      room = subst (λ (n : ℕ). n ≤ length c.args.sheet.now) c.cell_count-cells.ensures.value c.if-sheet-cells.false;
     }) ∙
     ap (λ (q : Program). ran_as q b o) (ap program_of (c.of-image.ensures ∙ c.image.ensures.value))
