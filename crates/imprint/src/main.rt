@@ -18,6 +18,7 @@ use press_box::fault::LoadFault;
 use press_box::imprint_box::ImprintBox;
 use programme::laid_out::LaidOut;
 use std::io::{BufRead, BufReader, Read};
+use std::process::ExitCode;
 use std::{env, fs, io};
 use wording::{ItemLines, LayoutRefusal, Several, Summary};
 
@@ -308,12 +309,12 @@ fn run(rt: &HostRuntime) -> Result<(), Failure> {
     }
 }
 
-fn main(rt: HostRuntime) -> Result<(), Failure> {
+fn main(rt: HostRuntime) -> ExitCode {
     match run(&rt) {
-        Ok(()) => Ok(()),
+        Ok(()) => ExitCode::SUCCESS,
         Err(failure) => {
-            eprintln!(rt; "imprint: {failure}")?;
-            Err(failure)
+            let _ = eprintln!(rt; "imprint: {failure}");
+            ExitCode::FAILURE
         }
     }
 }
