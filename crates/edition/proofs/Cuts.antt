@@ -1,10 +1,10 @@
 -- What the next byte makes of a line's text and of its fields.
 use Rattle.std.proofs.Common.{◌≡◌, ℕ, ◌+◌, ◌-◌, ◌<◌, ◌≤◌, Bool, true, false, cond, eqb, List, [], ◌∷◌, ◌++◌, length, get_or, take, drop, sym, refl, ap, ◌∙◌, inl, inr, append_assoc, append-nil, arith}
-use Rattle.std.proofs.lemmas.List.{at_drop_more, at_drop_all, take_more, take_all}
-use Rattle.std.proofs.lemmas.List.Edits.{between_more, length-between}
+use Rattle.std.proofs.lemmas.List.{at_drop_more, at_drop_all, take_more}
+use Rattle.std.proofs.lemmas.List.Edits.{length-between}
 use Rattle.std.proofs.lemmas.Bool.{cases_lt}
 use Rattle.std.specs.List.{between}
-use Rattle.edition.specs.Fields.{Field, text_of, blank, ended, cut, fields_from}
+use Rattle.edition.specs.Fields.{text_of, blank, ended, cut, fields_from}
 
 module _ (line : List ℕ) (i : ℕ) where
   -- the text's bytes up to here, and what of the rest is text

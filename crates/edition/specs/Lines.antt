@@ -4,7 +4,6 @@ use Rattle.std.specs.Prelude.{◌≡◌, ℕ, ◌+◌, cond, List, [], ◌∷◌
 use Rattle.std.specs.Str.{bytes_eq}
 use Rattle.edition.specs.declared.setting.Setting.{Setting}
 use Rattle.edition.specs.declared.setting.Setting.TheVariants.{Fuel, Strip, Sheet, Words}
-use Rattle.edition.specs.declared.errors.Part.{Part}
 use Rattle.edition.specs.declared.errors.Part.TheVariants.{Command, Name, Keyword, Number}
 use Rattle.edition.specs.declared.errors.LineError.{LineError}
 use Rattle.edition.specs.declared.errors.LineError.TheVariants.{Memory, Missing, Unexpected, TooLarge, Surplus}

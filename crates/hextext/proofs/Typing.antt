@@ -1,5 +1,5 @@
 -- Typed words are read as these words.
-use Rattle.std.proofs.Common.{◌≡◌, ℕ, zero, suc, ◌+◌, ◌-◌, ◌*◌, ◌/◌, ◌%◌, ◌^◌, ◌<◌, ◌≤◌, Bool, true, false, cond, ltb, List, [], ◌∷◌, ◌++◌, Ok, Err, vec_items, Result, Vec, sym, refl, ap, ◌∙◌, append_assoc, append-nil, pow-suc, arith}
+use Rattle.std.proofs.Common.{◌≡◌, ℕ, zero, suc, ◌+◌, ◌-◌, ◌*◌, ◌/◌, ◌%◌, ◌^◌, ◌<◌, ◌≤◌, Bool, true, false, cond, ltb, List, [], ◌∷◌, ◌++◌, Ok, Err, Result, Vec, sym, refl, ap, ◌∙◌, append_assoc, append-nil, pow-suc, arith}
 use Rattle.std.proofs.lemmas.Bool.Decides.{nat_tests}
 use Rattle.std.specs.Fmt.{digit_glyph}
 use Rattle.std.specs.List.{AllByRecursion as All}
@@ -9,7 +9,6 @@ use Rattle.hextext.specs.declared.errors.TextError.TheVariants.{Memory, BadChara
 use Rattle.hextext.specs.declared.state.Class.TheVariants.{Digit}
 use Rattle.hextext.specs.declared.state.Inside.{Inside}
 use Rattle.hextext.specs.declared.state.Inside.TheVariants.{Nothing, Word}
-use Rattle.hextext.specs.declared.state.Part.{Part}
 use Rattle.hextext.specs.declared.state.State.{State}
 use Rattle.hextext.specs.Text.{Reading, Reads, reading, onward, moved, between, classed}
 use Rattle.hextext.specs.Text.Reading.{words, fault}

@@ -1,5 +1,5 @@
 -- What keeps the reader's numbers within their types.
-use Rattle.std.specs.Prelude.{ℕ, ◌+◌, ◌^◌, ◌<◌, ◌≤◌}
+use Rattle.std.specs.Prelude.{◌+◌, ◌^◌, ◌<◌, ◌≤◌}
 use Rattle.hextext.specs.declared.state.Class.{Class}
 use Rattle.hextext.specs.declared.state.Class.TheVariants.{Digit, Space, NewLine, Hash, Other}
 use Rattle.hextext.specs.declared.state.Inside.{Inside}

@@ -10,7 +10,6 @@ use Rattle.hextext.specs.declared.state.Class.{Class}
 use Rattle.hextext.specs.declared.state.Class.TheVariants.{Digit, Space, NewLine, Hash, Other}
 use Rattle.hextext.specs.declared.state.Inside.{Inside}
 use Rattle.hextext.specs.declared.state.Inside.TheVariants.{Nothing, Comment, Word}
-use Rattle.hextext.specs.declared.state.Part.{Part}
 use Rattle.hextext.specs.declared.state.State.{State}
 
 abbrev pub between : ℕ → ℕ → ℕ → Bool

@@ -1,23 +1,20 @@
 -- The layout pass answers the earliest word, and there the lowest number.
-use Rattle.std.proofs.Common.{◌≡◌, ℕ, zero, suc, ◌+◌, ◌<◌, ◌≤◌, Bool, true, false, cond, eqb, ltb, leb, List, [], ◌∷◌, length, get_or, take, Some, None, Option, sym, refl, ap, ◌∙◌, subst, inl, inr, ⊎_elim, zero-add, arith}
+use Rattle.std.proofs.Common.{◌≡◌, ℕ, zero, suc, ◌+◌, ◌<◌, ◌≤◌, Bool, true, false, cond, eqb, leb, List, length, get_or, take, Some, None, Option, sym, refl, ap, ◌∙◌, inl, inr, ⊎_elim, zero-add, arith}
 use Rattle.std.proofs.lemmas.Bool.{lt-ltb, le-ltb, true≢false}
-use Rattle.image.specs.declared.head.Head.{Head}
-use Rattle.image.specs.declared.instruction.Instruction.{Instruction}
 use Rattle.image.specs.declared.rule.LayoutRule.{LayoutRule}
 use Rattle.image.specs.declared.rule.LayoutRule.TheVariants.{TooLong, KindOutOfPlace, FieldNotZero, CutShort, TooManyItems, SizeOutOfRange, TooManyCells, NoBlock}
 use Rattle.image.specs.declared.section.Section.{Section}
 use Rattle.image.specs.declared.section.Section.TheVariants.{Channels, Shapes, Signatures, Tuples, Blocks}
 use Rattle.image.specs.declared.stand.Stand.{Stand}
-use Rattle.image.specs.declared.ty.Ty.{Ty}
 use Rattle.image.specs.declared.word.Word.{Word}
 use Rattle.image.specs.Words.{split}
 use Rattle.image.specs.Heads.{head_of}
 use Rattle.image.specs.Types.{type_of}
 use Rattle.image.specs.Instructions.{instruction_of}
 use Rattle.image.specs.Finding.{Finding, clear, fault, Tests, ◌then◌, at_place, arrive}
-use Rattle.image.specs.Earliest.{Breaks, AllKept, FirstBroken, EarliestAndLowest}
-use Rattle.image.specs.Layout.{number_of, stand, outset, tests_of_head, head_tests, no_such_kind, type_tests, instruction_tests, inner_tests, word_tests, step, end_tests, onward, layout, length_tests, place_tests, asked_at}
-use Rattle.image.proofs.Earliest.{Ascending, FromOn, BrokenFrom, walked}
+use Rattle.image.specs.Earliest.{Breaks, EarliestAndLowest}
+use Rattle.image.specs.Layout.{number_of, stand, outset, no_such_kind, inner_tests, word_tests, step, end_tests, onward, layout, place_tests, asked_at}
+use Rattle.image.proofs.Earliest.{Ascending, FromOn, walked}
 
 abbrev Rising : Tests LayoutRule → Type 0
 Rising = Ascending number_of 2

@@ -14,8 +14,8 @@ use Rattle.image.specs.Sections.{rank}
 use Rattle.image.specs.Heads.{head_of, section_of, follows}
 use Rattle.image.specs.Counts.{no_items, with_one}
 use Rattle.image.specs.Finding.{Finding, clear, fault, Tests, ◌then◌, broken, at_place, first, walk, arrive}
-use Rattle.image.specs.Layout.{stand, outset, head_tests, tests_of_head, no_such_kind, word_tests, step, after_head, end_tests, onward, layout}
-use Rattle.image.specs.Items.{Piece, piece, whole_head, pieces_from, reach, pieces}
+use Rattle.image.specs.Layout.{stand, outset, tests_of_head, no_such_kind, word_tests, step, after_head, end_tests, onward, layout}
+use Rattle.image.specs.Items.{whole_head, pieces_from, reach, pieces}
 use Rattle.image.specs.Splits.{words_of, InARow, Numbered, Split}
 use Rattle.image.proofs.Reading.{read}
 

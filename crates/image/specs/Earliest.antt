@@ -1,5 +1,5 @@
 -- "The earliest word answers, and there the lowest number", said without a walk: of all places where something is asked.
-use Rattle.std.specs.Prelude.{◌≡◌, ℕ, ◌<◌, ◌≤◌, false, ◌⊎◌, List, [], ◌∷◌}
+use Rattle.std.specs.Prelude.{◌≡◌, ℕ, ◌<◌, ◌≤◌, false, ◌⊎◌, [], ◌∷◌}
 use Rattle.image.specs.Finding.{Finding, clear, fault, Tests}
 
 -- the tests name the rule, and it is not kept

@@ -1,5 +1,5 @@
 -- Instruction words, kinds 20 to 2E and 30 to 32: what each says, and how it is written.
-use Rattle.std.specs.Prelude.{ℕ, ◌+◌, ◌-◌, ◌*◌, ◌/◌, ◌%◌, Bool, cond, [], ◌∷◌, get_or, Some, None, Option, nat_le, slice_index_or}
+use Rattle.std.specs.Prelude.{◌+◌, ◌-◌, ◌*◌, ◌/◌, ◌%◌, Bool, cond, [], ◌∷◌, get_or, Some, None, Option, nat_le, slice_index_or}
 use Rattle.image.specs.declared.word.Word.{Word}
 use Rattle.image.specs.declared.instruction.Instruction.{Instruction}
 use Rattle.image.specs.declared.instruction.Instruction.TheVariants.{SetNumber, SetTuple, SetBlock, Copy, Add, Subtract, Fetch, Store, Push, Pop, Peek, Poke, Strike, Branch, Raise, Jump, Lower, Halt}

@@ -1,7 +1,6 @@
 -- Type words, kinds 10 to 13: what each says, and how it is written.
-use Rattle.std.specs.Prelude.{ℕ, ◌-◌, Bool, true, false, cond, [], ◌∷◌, Some, None, Option, nat_le, slice_index_or}
+use Rattle.std.specs.Prelude.{◌-◌, Bool, true, false, cond, [], ◌∷◌, Some, None, Option, nat_le, slice_index_or}
 use Rattle.image.specs.declared.word.Word.{Word}
-use Rattle.image.specs.declared.ty.Sort.{Sort}
 use Rattle.image.specs.declared.ty.Sort.TheVariants.{Integer, Pointer, Code}
 use Rattle.image.specs.declared.ty.Ty.{Ty}
 use Rattle.image.specs.declared.ty.Ty.TheVariants.{Nonsense, Typed}

@@ -1,5 +1,5 @@
 -- The layout pass is clear exactly over the words of a row of parts, in order and within the limits.
-use Rattle.std.proofs.Common.{◌≡◌, ℕ, zero, suc, ◌+◌, ◌≤◌, cond, eqb, leb, ◌↔◌, List, [], ◌∷◌, ◌++◌, map, length, take, drop, Some, None, Option, sym, refl, ap, ◌∙◌, subst, ap₂, arith, le→leb, eqb→eq, leb→le, length-append, length-drop, take-append-drop, length-take}
+use Rattle.std.proofs.Common.{◌≡◌, ℕ, zero, suc, ◌+◌, ◌≤◌, cond, leb, ◌↔◌, List, [], ◌∷◌, ◌++◌, map, length, take, drop, Some, None, Option, sym, refl, ap, ◌∙◌, subst, ap₂, arith, le→leb, eqb→eq, leb→le, length-append, length-drop, take-append-drop, length-take}
 use Rattle.std.proofs.lemmas.Bool.{le-leb}
 use Rattle.image.specs.declared.section.Section.{Section}
 use Rattle.image.specs.declared.counts.Counts.{Counts}

@@ -17,7 +17,6 @@ use Rattle.machine.specs.Machine.{State, Outcome, reg_of, next}
 use Rattle.machine.specs.Machine.Deed.{goes}
 use Rattle.secrecy.proofs.Setting.{Setting, Label, context_at, types_at, words_at, types_after, runs_on, Seen, Described, Stays}
 use Rattle.secrecy.proofs.Labels.{seen_down, seen_left}
-use Rattle.secrecy.proofs.Beginnings.{unseen}
 use Rattle.secrecy.proofs.Outcomes.{spent_not_halted, full_not_halted, Looks, Silent, looks_then, looks_silent, looks_struck}
 use Rattle.secrecy.proofs.Steps.{step_looks}
 use Rattle.secrecy.proofs.Views.View.{calm, striking, branching, raising}

@@ -13,7 +13,6 @@ use Rattle.rules.specs.Types.{level, reg, slot}
 use Rattle.rules.specs.LaidOut.{Every, SignatureLaid}
 use Rattle.rules.specs.Named.{NoAddress, TypeNamed, ContextNamed, Plain, InstructionNamed, SignatureNamed, BlockNamed}
 use Rattle.rules.specs.WellTyped.{Checked, BlockTyped}
-use Rattle.machine.specs.Cells.{laid}
 use Rattle.secrecy.proofs.Every.{every_at, every_past, every_append}
 use Rattle.secrecy.proofs.Setting.{Setting, Holds, Labelled, Label, context_at, types_at, words_at, cells_at}
 

@@ -1,4 +1,4 @@
-use Rattle.std.proofs.Common.{◌≡◌, Ok, Err, vec_items, sym, ◌∙◌, arith}
+use Rattle.std.proofs.Common.{Ok, Err, vec_items, sym, ◌∙◌, arith}
 use Rattle.std.proofs.lemmas.Result.{err_from_is_err_and}
 use Rattle.hextext.specs.Text.{Reads}
 use Rattle.hextext.proofs.Turns.{at_byte, at_end, refuses}

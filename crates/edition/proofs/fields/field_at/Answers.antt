@@ -1,5 +1,4 @@
-use Rattle.std.proofs.Common.{◌≡◌, sym, ap, ◌∙◌, arith}
-use Rattle.edition.specs.Fields.{fields_from}
+use Rattle.std.proofs.Common.{◌≡◌, sym, ◌∙◌, arith}
 use Rattle.edition.proofs.Cuts.{field_between, no_field}
 use Rattle.edition.proofs.fields.field_at.Goals as goal
 

@@ -20,4 +20,3 @@ pub returns-in-None : goal.returns-in-None
 returns-in-None c =
     let ns = c.args.words.now in
     record { within = search rules; value = ended (length ns) ns c.loop-place.s c.loop-place.place _ c.loop-place-test.false c.in-None.ensures ∙ c.loop-place.invariant.2 }
-

@@ -1,5 +1,4 @@
 use Rattle.std.proofs.Common.{◌≡◌, subst}
-use Rattle.labels.specs.Meaning.{Meaning}
 use Rattle.labels.specs.Pairs.{pair}
 use Rattle.secrecy.specs.Promise.{KeepsPromise}
 use Rattle.press_box.proofs.imprint_box.pair_box.Goals as goal

@@ -1,4 +1,4 @@
-use Rattle.std.proofs.Common.{◌+◌, ◌∷◌, ◌++◌, map, drop, vec_items, sym, refl, ap}
+use Rattle.std.proofs.Common.{◌+◌, ◌∷◌, map, drop, vec_items, sym, refl, ap}
 use Rattle.rules.specs.Says.{type_in}
 use Rattle.readers.proofs.Pushing.{pushed, all_pushed}
 use Rattle.readers.proofs.cells.add_types.Goals as goal

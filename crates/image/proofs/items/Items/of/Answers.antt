@@ -1,4 +1,4 @@
-use Rattle.std.proofs.Common.{◌≡◌, ◌-◌, take, drop, ap, ◌∙◌, arith, rules}
+use Rattle.std.proofs.Common.{◌≡◌, ◌-◌, take, drop, ap, ◌∙◌, arith}
 use Rattle.image.specs.Items.{pieces_from}
 use Rattle.image.specs.Surveys.{nothing_seen}
 use Rattle.image.proofs.Splitting.{splits}

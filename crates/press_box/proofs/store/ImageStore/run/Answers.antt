@@ -1,5 +1,5 @@
-use Rattle.std.proofs.Common.{◌≡◌, ℕ, ◌-◌, ◌≤◌, List, length, take, sym, ap, ◌∙◌, subst, arith, length-take, rules}
-use Rattle.rules.specs.Program.{Program, cell_types}
+use Rattle.std.proofs.Common.{ℕ, ◌≤◌, length, sym, ap, ◌∙◌, subst, length-take, rules}
+use Rattle.rules.specs.Program.{Program}
 use Rattle.rules.specs.Says.{program_of}
 use Rattle.programme.specs.Spelled.{words_in}
 use Rattle.machine.specs.Box.{ran_as}
