@@ -13,6 +13,15 @@ import os
 import re
 import sys
 
+# The record that port.py keeps apart from a struct of the name that the rule would give it; parameters and local names.
+ALSO = {"Laid_out": "IsLaidOut", "Tuple-part": "TuplePart"} | {
+    n: n.replace("-", "_")
+    for n in (
+        "ascending-last box-is box-was f-ok fault-is fault-was m-ok n-ok nonsense-fine other-ok report-is report-was s-ok small-h small-l "
+        "strip-is strip-was the-card unraised-here zero-types"
+    ).split()
+}
+
 WORD = r"[^\s(){}\[\].;,@\"«»`]+"
 HEAD = re.compile(r"^\s*(?:(?:abbrev|unfoldable|pub)\s+)*(?:(?:data|record|module|ruleset)\s+(" + WORD + r")|(" + WORD + r"(?:\s+" + WORD + r")*)\s*:(?=\s|$))")
 USE = re.compile(r"\buse\s+([^\s{;]+)\.\{([^}]*)\}")
@@ -84,11 +93,11 @@ def main():
     paths = list(files(top))
     own = set(os.listdir(os.path.join(top, "crates")))
     names = declared(paths)
-    table = {n: spelled(n) for n in names}
+    table = {n: spelled(n) for n in names} | ALSO
     for path in paths:
         text = read(path)
         kept = from_library(text, own)
-        mine = {n: s for n, s in table.items() if n not in kept or path in names[n]}
+        mine = {n: s for n, s in table.items() if n not in kept or path in names.get(n, ())}
         here = set(re.findall(WORD, text))
         for n, s in mine.items():
             if n in here and s in here:

@@ -2,13 +2,13 @@
 // definition, and with them the worked examples: the changes of it that are refused, and its runs.
 #![tactic(auto)]
 
-ghost use Rattle.card.specs.Card.{card as the-card};
+ghost use Rattle.card.specs.Card.{card as the_card};
 ghost use Rattle.card.specs.Examples.{examples, ExamplesHold};
 ghost use Rattle.std.specs.Prelude.{length, ◌≡◌};
 
 // The words of the card image.
 pub fn card() -> [u32; 24]
-    ensures { result ≡ the-card }
+    ensures { result ≡ the_card }
 {
     [
         0x01000000, 0x01000001, 0x02000002, 0x11000001, 0x11000000, 0x03000000, 0x10000000,

@@ -27,10 +27,10 @@ abbrev pub fault_after : Verdict → Fault → Fault
 fault_after accepted was = was
 fault_after (refuses pass number place) was = record { number = number; pass = pass_number pass; place = place }
 
-pub record Loads (m : Meaning) (image : List ℕ) (box-was : Model) (fault-was : Fault) (number : ℕ) (box-is : Model) (fault-is : Fault) : Type 0 where
+pub record Loads (m : Meaning) (image : List ℕ) (box_was : Model) (fault_was : Fault) (number : ℕ) (box_is : Model) (fault_is : Fault) : Type 0 where
   pub number_is : number ≡ load_number (verdict m image)
-  pub box : box-is ≡ loaded m image box-was
-  pub fault : fault-is ≡ fault_after (verdict m image) fault-was
+  pub box : box_is ≡ loaded m image box_was
+  pub fault : fault_is ≡ fault_after (verdict m image) fault_was
 
 -- ---- run
 
@@ -49,9 +49,9 @@ abbrev pub report_after : Answer → Report → Report
 report_after (refused number) was = was
 report_after (ended r) was = record { end = end_number r.end; steps = r.steps; strikes = r.strikes }
 
-pub record Runs (o : Order) (box-was : Model) (report-was : Report) (number : ℕ) (box-is : Model) (strip-is : List Strike) (sheet_is : List ℕ) (report-is : Report) : Type 0 where
-  pub number_is : number ≡ run_number (ran box-was o).answer
-  pub box : box-is ≡ (ran box-was o).box
-  pub strip : strip-is ≡ (ran box-was o).strip
-  pub sheet : sheet_is ≡ (ran box-was o).sheet
-  pub report : report-is ≡ report_after (ran box-was o).answer report-was
+pub record Runs (o : Order) (box_was : Model) (report_was : Report) (number : ℕ) (box_is : Model) (strip_is : List Strike) (sheet_is : List ℕ) (report_is : Report) : Type 0 where
+  pub number_is : number ≡ run_number (ran box_was o).answer
+  pub box : box_is ≡ (ran box_was o).box
+  pub strip : strip_is ≡ (ran box_was o).strip
+  pub sheet : sheet_is ≡ (ran box_was o).sheet
+  pub report : report_is ≡ report_after (ran box_was o).answer report_was

@@ -1,5 +1,5 @@
 // The box for firmware: C functions over boxes of fixed kinds, for a static library. A box lies in the caller's memory and nothing is
-// allocated. Zero bytes are an empty box, so that memory that C has cleared can be handed in. `firmware/imprint.h` declares all this for C.
+// allocated. Zero bytes are an empty box, so that memory that C has cleared can be handed in.
 #![tactic(auto)]
 
 mod exports;

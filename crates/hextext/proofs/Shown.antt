@@ -14,4 +14,4 @@ printable b c l h e =
     simp (e, encode_ascii b small, test)
 
 pub unprintable : (b h l : ℕ) → between 32 126 b ≡ false → h ≡ digit_glyph true (b / 16) → l ≡ digit_glyph true (b % 16) → h < 128 → l < 128 → codes "byte 0x" ++ (encode h ++ encode l) ≡ byte_shown b
-unprintable b h l out high low small-h small-l = simp (encode_ascii h small-h, encode_ascii l small-l) (simp (high, low, out))
+unprintable b h l out high low small_h small_l = simp (encode_ascii h small_h, encode_ascii l small_l) (simp (high, low, out))

@@ -2,7 +2,7 @@
 use Rattle.std.proofs.Common.{◌≡◌, ℕ, zero, suc, ◌+◌, ◌-◌, ◌*◌, ◌/◌, ◌%◌, ◌^◌, ◌<◌, ◌≤◌, Bool, true, false, cond, ltb, List, [], ◌∷◌, ◌++◌, Ok, Err, Result, Vec, sym, refl, ap, ◌∙◌, append_assoc, append-nil, pow-suc, arith}
 use Rattle.std.proofs.lemmas.Bool.Decides.{nat_tests}
 use Rattle.std.specs.Fmt.{digit_glyph}
-use Rattle.std.specs.List.{AllByRecursion as All}
+use Rattle.std.specs.List.{AllByRecursion}
 use Rattle.std.specs.declared.alloc.Global.{Global}
 use Rattle.hextext.specs.declared.errors.TextError.{TextError}
 use Rattle.hextext.specs.declared.errors.TextError.TheVariants.{Memory, BadCharacter, WordTooLong}
@@ -70,7 +70,7 @@ module _ (done : List ℕ) (lines : ℕ) where
       ∙ ap (λ n. onward done (at lines (bytes + suc j + 1) (part w n (bytes + 1))) bs) digits
       ∙ ap (λ n. onward done (at lines n (part w (suc (suc j)) (bytes + 1))) bs) place
 
-lines_of : (ws done : List ℕ) (lines : ℕ) → All (λ w. w < 2 ^ 32) ws → onward done (at lines 0 Nothing) (typed ws) ≡ words (done ++ ws)
+lines_of : (ws done : List ℕ) (lines : ℕ) → AllByRecursion (λ w. w < 2 ^ 32) ws → onward done (at lines 0 Nothing) (typed ws) ≡ words (done ++ ws)
 lines_of [] done lines fit = refl
 lines_of (w ∷ ws) done lines fit =
     let h : w < 16 ^ 8 = omega (arith, fit.0) in
@@ -78,7 +78,7 @@ lines_of (w ∷ ws) done lines fit =
     ∙ lines_of ws (done ++ (w ∷ [])) (lines + 1) fit.1
     ∙ ap words (append_assoc done (w ∷ []) ws)
 
-reads_typed : (ws : List ℕ) → All (λ w. w < 2 ^ 32) ws → reading (typed ws) ≡ words ws
+reads_typed : (ws : List ℕ) → AllByRecursion (λ w. w < 2 ^ 32) ws → reading (typed ws) ≡ words ws
 reads_typed ws fit = lines_of ws [] 0 fit
 
 never : (e : TextError) (ws : List ℕ) (r : Reading) → r ≡ words ws → r ≡ fault e → e ≡ Memory

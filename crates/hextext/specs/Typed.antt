@@ -1,7 +1,7 @@
 -- Words as one would type them, each by eight hexadecimal digits on a line of its own.
 use Rattle.std.specs.Prelude.{◌≡◌, ℕ, zero, suc, ◌/◌, ◌%◌, ◌^◌, ◌<◌, true, List, [], ◌∷◌, ◌++◌, vec_items, Result, Vec, MatchResult}
 use Rattle.std.specs.Fmt.{digit_glyph}
-use Rattle.std.specs.List.{AllByRecursion as All}
+use Rattle.std.specs.List.{AllByRecursion}
 use Rattle.std.specs.declared.alloc.Global.{Global}
 use Rattle.hextext.specs.declared.errors.TextError.{TextError}
 use Rattle.hextext.specs.declared.errors.TextError.TheVariants.{Memory}
@@ -17,4 +17,4 @@ typed (w ∷ ws) = figures 8 w ++ (10 ∷ typed ws)
 
 -- Typed words are read as these words, unless there is no memory for them.
 abbrev pub ReadsBack : List ℕ → Result (Vec ℕ Global) TextError → Type 0
-ReadsBack bs r = (ws : List ℕ) → All (λ w. w < 2 ^ 32) ws → bs ≡ typed ws → MatchResult r (λ v. vec_items v ≡ ws) (λ e. e ≡ Memory)
+ReadsBack bs r = (ws : List ℕ) → AllByRecursion (λ w. w < 2 ^ 32) ws → bs ≡ typed ws → MatchResult r (λ v. vec_items v ≡ ws) (λ e. e ≡ Memory)

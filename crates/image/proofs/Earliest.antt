@@ -63,12 +63,12 @@ module _ {R : Type 0} (number : R → ℕ) (asked : ℕ → Tests R) (p end : �
   found_here : p ≤ end → (rule : R) → Told number (asked p) (Some rule) → FromOn number asked p end (fault rule p)
   found_here l rule h = record { start = omega arith; within = l; breaks = h.0; earliest = λ i a b. absurd (omega arith); lowest = h.1 }
 
-module _ {R S A : Type 0} (number : R → ℕ) (tests : S → A → Tests R) (next : S → A → S) (last : S → Tests R) (asked : ℕ → Tests R) (d : A) (m : ℕ) (ascending : (s : S) (x : A) → Ascending number m (tests s x)) (ascending-last : (s : S) → Ascending number m (last s)) where
+module _ {R S A : Type 0} (number : R → ℕ) (tests : S → A → Tests R) (next : S → A → S) (last : S → Tests R) (asked : ℕ → Tests R) (d : A) (m : ℕ) (ascending : (s : S) (x : A) → Ascending number m (tests s x)) (ascending_last : (s : S) → Ascending number m (last s)) where
   abbrev onwards : ℕ → S → ℕ → List A → Finding R
   onwards end s p xs = walk tests next s p xs then first end (last (arrive tests next s xs))
 
   pub walked : (xs : List A) (s : S) (p end : ℕ) → end ≡ p + length xs → ((i : ℕ) → i < length xs → asked (p + i) ≡ tests (arrive tests next s (take i xs)) (get_or xs i d)) → asked end ≡ last (arrive tests next s xs) → FromOn number asked p end (onwards end s p xs)
-  walked [] s p end e each stop = go (broken (last s)) (told number m (last s) (ascending-last s))
+  walked [] s p end e each stop = go (broken (last s)) (told number m (last s) (ascending_last s))
     where
       go : (o : Option R) → Told number (last s) o → FromOn number asked p end (at_place end o)
       go None h = λ i l r. let same : end ≡ i = omega arith in subst (λ j. AllKept (asked j)) same (subst AllKept (sym stop) h)

@@ -77,8 +77,8 @@ head_tests s w = elim (head_of w) [ None ↦ no_such_kind | Some h ↦ tests_of_
 
 -- a shape has no nonsense cell
 abbrev pub type_tests : Bool → Word → Tests LayoutRule
-type_tests nonsense-fine w =
-    elim (type_of w) [ None ↦ no_such_kind | Some t ↦ (KindOutOfPlace, nonsense-fine || not (is_nonsense t)) ∷ (FieldNotZero, same (type_word t) w) ∷ [] ]
+type_tests nonsense_fine w =
+    elim (type_of w) [ None ↦ no_such_kind | Some t ↦ (KindOutOfPlace, nonsense_fine || not (is_nonsense t)) ∷ (FieldNotZero, same (type_word t) w) ∷ [] ]
 
 abbrev pub instruction_tests : Bool → Word → Tests LayoutRule
 instruction_tests last w = elim (instruction_of last w) [ None ↦ no_such_kind | Some i ↦ (FieldNotZero, same (instruction_word i) w) ∷ [] ]

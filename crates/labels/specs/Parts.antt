@@ -29,7 +29,7 @@ zero_joined m ok =
     ok.antisymmetric (m.joined 0 0) 0 (ok.join_least 0 0 0 low low)
     (ok.bottom (m.joined 0 0) (ok.join_label 0 0 ok.some ok.some))
 
-module _ (f s : Meaning) (f-ok : Lawful f) (s-ok : Lawful s) where
+module _ (f s : Meaning) (f_ok : Lawful f) (s_ok : Lawful s) where
   -- how many codes the parts make, and the parts of a code
   abbrev codes : ℕ
   codes = f.count * s.count
@@ -41,10 +41,10 @@ module _ (f s : Meaning) (f-ok : Lawful f) (s-ok : Lawful s) where
   lo a = a % s.count
 
   hi_label : (a : ℕ) → a < codes → hi a < f.count
-  hi_label a h = div_below a s.count f.count s-ok.some h
+  hi_label a h = div_below a s.count f.count s_ok.some h
 
   lo_label : (a : ℕ) → lo a < s.count
-  lo_label a = mod_below a s.count s-ok.some
+  lo_label a = mod_below a s.count s_ok.some
 
   same_parts : (a b : ℕ) → hi a ≡ hi b → lo a ≡ lo b → a ≡ b
   same_parts a b p q =
@@ -65,7 +65,7 @@ module _ (f s : Meaning) (f-ok : Lawful f) (s-ok : Lawful s) where
   up = joined_by_parts f s
 
   lo_joined : (a b : ℕ) → s.joined (lo a) (lo b) < s.count
-  lo_joined a b = s-ok.join_label (lo a) (lo b) (lo_label a) (lo_label b)
+  lo_joined a b = s_ok.join_label (lo a) (lo b) (lo_label a) (lo_label b)
 
   hi_up : (a b : ℕ) → hi (up a b) ≡ f.joined (hi a) (hi b)
   hi_up a b = div-mul-add (f.joined (hi a) (hi b)) s.count (s.joined (lo a) (lo b)) (lo_joined a b)
@@ -79,7 +79,7 @@ module _ (f s : Meaning) (f-ok : Lawful f) (s-ok : Lawful s) where
         arith,
         mul_comm f.count s.count,
         mul-add-lt (f.joined (hi a) (hi b)) s.count (s.joined (lo a) (lo b)) f.count
-            (f-ok.join_label (hi a) (hi b) (hi_label a ha) (hi_label b hb)) (lo_joined a b),
+            (f_ok.join_label (hi a) (hi b) (hi_label a ha) (hi_label b hb)) (lo_joined a b),
       )
 
   below_up : (a b c : ℕ) → T (f.below (hi c) (f.joined (hi a) (hi b))) → T (s.below (lo c) (s.joined (lo a) (lo b)))
@@ -96,31 +96,31 @@ module _ (f s : Meaning) (f-ok : Lawful f) (s-ok : Lawful s) where
 
   bottom : (a : ℕ) → a < codes → T (below_by_parts f s 0 a)
   bottom a h =
-      put 0 a (subst (λ (x : ℕ). T (f.below x (hi a))) (sym (zero-div s.count)) (f-ok.bottom (hi a) (hi_label a h)))
-      (subst (λ (x : ℕ). T (s.below x (lo a))) (sym (zero-mod s.count)) (s-ok.bottom (lo a) (lo_label a)))
+      put 0 a (subst (λ (x : ℕ). T (f.below x (hi a))) (sym (zero-div s.count)) (f_ok.bottom (hi a) (hi_label a h)))
+      (subst (λ (x : ℕ). T (s.below x (lo a))) (sym (zero-mod s.count)) (s_ok.bottom (lo a) (lo_label a)))
 
   parts_ordered : codes ≤ 256 → Ordered codes (below_by_parts f s) up
   parts_ordered fits = record {
-    some = mul-le 1 1 f.count s.count f-ok.some s-ok.some;
+    some = mul-le 1 1 f.count s.count f_ok.some s_ok.some;
     few = fits;
-    reflexive = λ a h. put a a (f-ok.reflexive (hi a) (hi_label a h)) (s-ok.reflexive (lo a) (lo_label a));
+    reflexive = λ a h. put a a (f_ok.reflexive (hi a) (hi_label a h)) (s_ok.reflexive (lo a) (lo_label a));
     antisymmetric = λ a b ha hb p q.
-        same_parts a b (f-ok.antisymmetric (hi a) (hi b) (of_hi a b p) (of_hi b a q))
-        (s-ok.antisymmetric (lo a) (lo b) (of_lo a b p) (of_lo b a q));
+        same_parts a b (f_ok.antisymmetric (hi a) (hi b) (of_hi a b p) (of_hi b a q))
+        (s_ok.antisymmetric (lo a) (lo b) (of_lo a b p) (of_lo b a q));
     transitive = λ a b c ha hb hc p q.
-        put a c (f-ok.transitive (hi a) (hi b) (hi c) (of_hi a b p) (of_hi b c q))
-        (s-ok.transitive (lo a) (lo b) (lo c) (of_lo a b p) (of_lo b c q));
+        put a c (f_ok.transitive (hi a) (hi b) (hi c) (of_hi a b p) (of_hi b c q))
+        (s_ok.transitive (lo a) (lo b) (lo c) (of_lo a b p) (of_lo b c q));
     bottom = bottom;
     join_label = up_label;
     join_left = λ a b ha hb.
-        below_up a b a (f-ok.join_left (hi a) (hi b) (hi_label a ha) (hi_label b hb))
-        (s-ok.join_left (lo a) (lo b) (lo_label a) (lo_label b));
+        below_up a b a (f_ok.join_left (hi a) (hi b) (hi_label a ha) (hi_label b hb))
+        (s_ok.join_left (lo a) (lo b) (lo_label a) (lo_label b));
     join_right = λ a b ha hb.
-        below_up a b b (f-ok.join_right (hi a) (hi b) (hi_label a ha) (hi_label b hb))
-        (s-ok.join_right (lo a) (lo b) (lo_label a) (lo_label b));
+        below_up a b b (f_ok.join_right (hi a) (hi b) (hi_label a ha) (hi_label b hb))
+        (s_ok.join_right (lo a) (lo b) (lo_label a) (lo_label b));
     join_least = λ a b c ha hb hc p q.
-        up_below a b c (f-ok.join_least (hi a) (hi b) (hi c) (of_hi a c p) (of_hi b c q))
-        (s-ok.join_least (lo a) (lo b) (lo c) (of_lo a c p) (of_lo b c q));
+        up_below a b c (f_ok.join_least (hi a) (hi b) (hi c) (of_hi a c p) (of_hi b c q))
+        (s_ok.join_least (lo a) (lo b) (lo c) (of_lo a c p) (of_lo b c q));
   }
 
   pub pair_lawful : Lawful (pair f s)
@@ -130,7 +130,7 @@ module _ (f s : Meaning) (f-ok : Lawful f) (s-ok : Lawful s) where
       (λ e. lone_lawful)
 
   zero_up : up 0 0 ≡ 0
-  zero_up = simp (zero-div, zero-mod, zero_joined f f-ok, zero_joined s s-ok, zero-mul)
+  zero_up = simp (zero-div, zero-mod, zero_joined f f_ok, zero_joined s s_ok, zero-mul)
 
   -- Joining by parts is right for a pair of one label too, and the code that comes out is one byte.
   pub up_is_joined : (a b : ℕ) → T (both_below (pair f s).count a b) → (up a b ≡ (pair f s).joined a b) × (up a b < 256)

@@ -8,7 +8,7 @@ use Rattle.image.specs.Items.{Piece, piece, part_of, item_section, pieces}
 use Rattle.image.specs.Reader.{shown, handed, others}
 use Rattle.programme.proofs.Sizes.{Limited}
 use Rattle.rules.specs.LaidOut.{Every}
-use Rattle.rules.specs.Program.{Tuple as Tuple-part, base_in}
+use Rattle.rules.specs.Program.{Tuple as TuplePart, base_in}
 use Rattle.rules.specs.Says.{program, program_of}
 use Rattle.machine.proofs.Counting.{base_few}
 use Rattle.machine.proofs.Sound.{Sound}
@@ -25,7 +25,7 @@ pub others_limited : (ps : List Piece) → Every Limited ps → Every Limited (o
 others_limited [] h = tt
 others_limited (q ∷ ps) h = h.1
 
-base_next : (t : Tuple-part) (ts : List Tuple-part) (n : ℕ) → (n ≡ 0 → ⊥) → base_in (t ∷ ts) n ≡ length t.words + base_in ts (n - 1)
+base_next : (t : TuplePart) (ts : List TuplePart) (n : ℕ) → (n ≡ 0 → ⊥) → base_in (t ∷ ts) n ≡ length t.words + base_in ts (n - 1)
 base_next t ts zero h = absurd (h refl)
 base_next t ts (suc n) h = let one : n ≡ suc n - 1 = omega arith in ap (λ k. length t.words + base_in ts k) one
 

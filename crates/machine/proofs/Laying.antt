@@ -164,7 +164,7 @@ module _ {p : Program} {job first : List ℕ} {n cell taken : ℕ} {sheet : List
   pub laid_all : length p.tuples ≤ n → length (cell_types p) ≤ length first → sheet ≡ written (cells_for p job) first
   laid_all h room =
       let none = drop_all n p.tuples h in
-      let zero-types = ap (λ ts. length (cell_types_of p ts)) none in
+      let zero_types = ap (λ ts. length (cell_types_of p ts)) none in
       let all : take cell sheet ≡ cells_for p job =
       sym (append-nil (take cell sheet))
       ∙ ap (λ ts. take cell sheet ++ laid (cell_types_of p ts) (image_words ts) (drop taken job)) (sym none)

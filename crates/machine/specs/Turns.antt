@@ -21,9 +21,9 @@ Turns p s is (Go words) t = next p s is ≡ goes (body_of words.now) t
 Turns p s is (Struck strike words) t = (next p s is ≡ strikes strike (body_of words.now) t) × (t.cells ≡ s.cells)
 
 -- the answer is the outcome's, its strikes stand on the front of what the strip was, and the cells are as they end
-pub record ComesTo (o : Outcome) (r : Ran) (strip-was strip-is : List Strike) (cells_are : List ℕ) : Type 0 where
+pub record ComesTo (o : Outcome) (r : Ran) (strip_was strip_is : List Strike) (cells_are : List ℕ) : Type 0 where
   pub end : r.end ≡ o.end
   pub steps : r.steps ≡ o.steps
   pub strikes : r.strikes ≡ length o.strikes
-  pub strip : strip-is ≡ written o.strikes strip-was
+  pub strip : strip_is ≡ written o.strikes strip_was
   pub cells : cells_are ≡ o.cells

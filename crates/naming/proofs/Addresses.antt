@@ -26,7 +26,7 @@ module _ (ns : List ℕ) (i : ℕ) where
   pub none_ended : length ns ≤ i → true ≡ NoneOnward
   none_ended h = sym (ap (λ l. all no_address (map type_in l)) (drop_all i ns h))
 
-module _ (k : Context) (ns : List ℕ) (unraised-here : k ≡ Empty) where
+module _ (k : Context) (ns : List ℕ) (unraised_here : k ≡ Empty) where
   depth : length (map type_in (drop 8 ns)) ≡ length ns - 8
   depth = length-map (drop 8 ns) type_in ∙ length-drop 8 ns
 
@@ -35,7 +35,7 @@ module _ (k : Context) (ns : List ℕ) (unraised-here : k ≡ Empty) where
   shallow h =
       let none : length (map type_in (drop 8 ns)) ≡ 0 = let d = depth in omega arith in
       sym
-      (ap (λ k. unraised k && eqb (length (map type_in (drop 8 ns))) 0 && all no_address (map type_in (take 8 ns))) unraised-here
+      (ap (λ k. unraised k && eqb (length (map type_in (drop 8 ns))) 0 && all no_address (map type_in (take 8 ns))) unraised_here
       ∙ ap (λ n. true && eqb n 0 && all no_address (map type_in (take 8 ns))) none
       ∙ ap (λ l. all no_address (map type_in l)) (take_all 8 ns h))
 
@@ -43,5 +43,5 @@ module _ (k : Context) (ns : List ℕ) (unraised-here : k ≡ Empty) where
   deep h =
       let some : eqb (length (map type_in (drop 8 ns))) 0 ≡ false = ne_eqb (length (map type_in (drop 8 ns))) 0 (λ z. let d = depth in omega arith) in
       sym
-      (ap (λ k. unraised k && eqb (length (map type_in (drop 8 ns))) 0 && all no_address (map type_in (take 8 ns))) unraised-here
+      (ap (λ k. unraised k && eqb (length (map type_in (drop 8 ns))) 0 && all no_address (map type_in (take 8 ns))) unraised_here
       ∙ ap (λ b. true && b && all no_address (map type_in (take 8 ns))) some)

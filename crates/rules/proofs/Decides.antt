@@ -13,7 +13,7 @@ use Rattle.rules.specs.Says.{Part, a_channel, a_shape, a_signature, a_tuple, a_b
 use Rattle.rules.specs.Written.{parts_of}
 use Rattle.rules.specs.Naming.{naming_number}
 use Rattle.rules.specs.Flow.{flow, part_flow, flow_number}
-use Rattle.rules.specs.LaidOut.{Every, Ended, BlockLaid, Laid_out}
+use Rattle.rules.specs.LaidOut.{Every, Ended, BlockLaid, IsLaidOut}
 use Rattle.rules.specs.Named.{Named}
 use Rattle.rules.specs.WellTyped.{BlockTyped, WellTyped}
 use Rattle.rules.specs.Rules.{MeetsEveryRule}
@@ -31,28 +31,28 @@ use Rattle.rules.proofs.Runs.{unlaid, together_again}
 all_pieces : (ns : List ℕ) → layout ns ≡ clear → pieces ns ≡ pieces_from no_items 0 0 ns
 all_pieces ns e = ap (λ f. pieces_from no_items 0 0 (take (reach ns f) ns)) e ∙ ap (pieces_from no_items 0 0) (take_all (length ns) ns (omega arith))
 
-pub layout_is : (ns : List ℕ) → layout ns ≡ clear → Laid_out ns (program_of ns)
+pub layout_is : (ns : List ℕ) → layout ns ≡ clear → IsLaidOut ns (program_of ns)
 layout_is ns e =
     let (l, g) = (layout_iff ns).0 e in
     let (w, r) = good_row (length ns) Channels 0 0 no_items 0 ns (omega arith) g in
-    subst (λ is. Laid_out ns (program is)) (sym (all_pieces ns e)) (laid ns (parts_in no_items 0 ns) w l r)
+    subst (λ is. IsLaidOut ns (program is)) (sym (all_pieces ns e)) (laid ns (parts_in no_items 0 ns) w l r)
 
 pub parts_laid : (ns : List ℕ) → layout ns ≡ clear → Every PartLaid (map says (pieces ns))
 parts_laid ns e =
     let r = (good_row (length ns) Channels 0 0 no_items 0 ns (omega arith) ((layout_iff ns).0 e).1).1 in
     subst (λ is. Every PartLaid (map says is)) (sym (all_pieces ns e)) (row_laid Channels 0 0 (parts_in no_items 0 ns) r)
 
-pub layout_from : (ns : List ℕ) (p : Program) → Laid_out ns p → layout ns ≡ clear
+pub layout_from : (ns : List ℕ) (p : Program) → IsLaidOut ns p → layout ns ≡ clear
 layout_from ns p h = (layout_iff ns).1 (h.short, subst (Good outset) (sym h.written) (row_good Channels 0 0 (parts_of p) (unlaid ns p h)))
 
-pub one_programme : (ns : List ℕ) (p : Program) → Laid_out ns p → program_of ns ≡ p
+pub one_programme : (ns : List ℕ) (p : Program) → IsLaidOut ns p → program_of ns ≡ p
 one_programme ns p h =
     ap program (all_pieces ns (layout_from ns p h))
     ∙ ap (λ ns. together (parts_in no_items 0 ns)) h.written
     ∙ ap together (row_parts Channels 0 0 no_items 0 (parts_of p) (unlaid ns p h))
     ∙ together_again p
 
-pub layout_decides : (ns : List ℕ) → (layout ns ≡ clear) ↔ Laid_out ns (program_of ns)
+pub layout_decides : (ns : List ℕ) → (layout ns ≡ clear) ↔ IsLaidOut ns (program_of ns)
 layout_decides ns = (layout_is ns, layout_from ns (program_of ns))
 
 -- ---- the naming pass over the items of an image

@@ -9,7 +9,7 @@ use Rattle.image.specs.declared.head.Context.TheVariants.{Empty, Raised}
 use Rattle.image.specs.declared.instruction.Instruction.{Instruction}
 use Rattle.image.specs.declared.instruction.Instruction.TheVariants.{SetNumber, SetTuple, SetBlock, Copy, Add, Subtract, Fetch, Store, Push, Pop, Peek, Poke, Strike, Branch, Raise, Jump, Lower, Halt}
 use Rattle.rules.specs.Program.{Program}
-use Rattle.rules.specs.LaidOut.{Every, ByteType, CellType, ByteContext, ByteInstruction, ShapeLaid, SignatureLaid, TupleLaid, BlockLaid, Laid_out}
+use Rattle.rules.specs.LaidOut.{Every, ByteType, CellType, ByteContext, ByteInstruction, ShapeLaid, SignatureLaid, TupleLaid, BlockLaid, IsLaidOut}
 use Rattle.rules.specs.Named.{TypeNamed, ContextNamed, InstructionNamed, SignatureNamed, TupleNamed, BlockNamed, Named}
 use Rattle.rules.specs.Verdict.{Verdict, accepted, refused, verdict}
 use Rattle.rules.specs.Free.{any_label, is_accepted, kind_free}
@@ -60,7 +60,7 @@ module _ (m : Meaning) (p : Program) where
   instruction_free (Lower block) y h = h
   instruction_free Halt y h = h
 
-  named_free : (ns : List ℕ) → Laid_out ns p → Named m p → Named any_label p
+  named_free : (ns : List ℕ) → IsLaidOut ns p → Named m p → Named any_label p
   named_free ns y h =
       record {
         channels = y.channels.1;

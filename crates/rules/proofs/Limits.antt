@@ -9,7 +9,7 @@ use Rattle.image.specs.Layout.{stand, counted, cells_of}
 use Rattle.rules.specs.Program.{Program}
 use Rattle.rules.specs.Says.{Part, a_channel, a_shape, a_signature, a_tuple, a_block, no_program, with_part, together}
 use Rattle.rules.specs.Written.{head_for, written, parts_of}
-use Rattle.rules.specs.LaidOut.{Every, ShapeLaid, SignatureLaid, TupleLaid, BlockLaid, all_cells, Laid_out}
+use Rattle.rules.specs.LaidOut.{Every, ShapeLaid, SignatureLaid, TupleLaid, BlockLaid, all_cells, IsLaidOut}
 use Rattle.rules.proofs.Rows.{Row}
 
 -- ---- how many parts of a section there are
@@ -162,7 +162,7 @@ row_all_laid x count cells (a_block b ∷ ys) (y, (o, m, k, r)) = let h = row_al
 
 -- ---- together
 
-pub laid : (ns : List ℕ) (ys : List Part) → ns ≡ written ys → length ns ≤ 2048 → Row Channels 0 0 ys → Laid_out ns (together ys)
+pub laid : (ns : List ℕ) (ys : List Part) → ns ≡ written ys → length ns ≤ 2048 → Row Channels 0 0 ys → IsLaidOut ns (together ys)
 laid ns ys e l r =
     let h = row_all_laid Channels 0 0 ys r in
     record {

@@ -11,7 +11,7 @@ use Rattle.image.specs.Layout.{cells_of}
 use Rattle.rules.specs.Program.{Signature, Tuple, Block, Program}
 use Rattle.rules.specs.Says.{Part, a_channel, a_shape, a_signature, a_tuple, a_block, with_part, together}
 use Rattle.rules.specs.Written.{head_for, parts_of}
-use Rattle.rules.specs.LaidOut.{Every, ShapeLaid, SignatureLaid, TupleLaid, BlockLaid, all_cells, Laid_out}
+use Rattle.rules.specs.LaidOut.{Every, ShapeLaid, SignatureLaid, TupleLaid, BlockLaid, all_cells, IsLaidOut}
 use Rattle.rules.proofs.ItemWords.{PartLaid}
 use Rattle.rules.proofs.Rows.{Row}
 
@@ -88,7 +88,7 @@ append_nil (x ∷ xs) = ap (λ ys. x ∷ ys) (append_nil xs)
 
 -- ---- section after section, from the last to the first
 
-module _ (ns : List ℕ) (p : Program) (h : Laid_out ns p) where
+module _ (ns : List ℕ) (p : Program) (h : IsLaidOut ns p) where
   abbrev from_blocks : List Part
   from_blocks = map a_block p.blocks
 

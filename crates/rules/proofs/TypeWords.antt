@@ -30,7 +30,7 @@ type_decoded (Typed (Code s) l) = refl
 
 -- what a type word may say: with nonsense in a signature, and without it in a shape
 abbrev pub Fine : Bool → Ty → Type 0
-Fine nonsense-fine t = ByteType t × T (nonsense-fine || not (is_nonsense t))
+Fine nonsense_fine t = ByteType t × T (nonsense_fine || not (is_nonsense t))
 
 abbrev pub said_type : Option Ty → Ty
 said_type o = elim o [ None ↦ Nonsense | Some t ↦ t ]

@@ -108,7 +108,7 @@ abbrev pub all_cells : List Tuple → ℕ
 all_cells [] = 0
 all_cells (t ∷ ts) = length t.words + all_cells ts
 
-pub record Laid_out (ns : List ℕ) (p : Program) : Type 0 where
+pub record IsLaidOut (ns : List ℕ) (p : Program) : Type 0 where
   pub written : ns ≡ image_of p
   pub short : length ns ≤ 2048
   pub channels : (length p.channels ≤ 16) × Every (λ l. l < 256) p.channels

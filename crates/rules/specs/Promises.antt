@@ -7,7 +7,7 @@ use Rattle.image.specs.Layout.{layout}
 use Rattle.rules.specs.Program.{Signature, Program}
 use Rattle.rules.specs.Says.{program_of}
 use Rattle.rules.specs.Flow.{body_flow}
-use Rattle.rules.specs.LaidOut.{Every, Ended, Laid_out}
+use Rattle.rules.specs.LaidOut.{Every, Ended, IsLaidOut}
 use Rattle.rules.specs.Named.{Named}
 use Rattle.rules.specs.WellTyped.{Checked}
 use Rattle.rules.specs.Rules.{MeetsEveryRule}
@@ -25,11 +25,11 @@ FlowDecides = (m : Meaning) (p : Program) (s : Signature) (place : ℕ) (is : Li
 
 -- the layout pass finds no fault exactly where the words are the programme that the items say, written down
 abbrev pub LayoutDecides : Type 0
-LayoutDecides = (ns : List ℕ) → (layout ns ≡ clear) ↔ Laid_out ns (program_of ns)
+LayoutDecides = (ns : List ℕ) → (layout ns ≡ clear) ↔ IsLaidOut ns (program_of ns)
 
 -- and no other programme is written so
 abbrev pub OneProgramme : Type 0
-OneProgramme = (ns : List ℕ) (p : Program) → Laid_out ns p → program_of ns ≡ p
+OneProgramme = (ns : List ℕ) (p : Program) → IsLaidOut ns p → program_of ns ≡ p
 
 -- in an image that is laid out the naming pass finds no fault exactly where the programme is named
 abbrev pub NamingDecides : Type 0

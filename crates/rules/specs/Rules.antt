@@ -3,12 +3,12 @@
 use Rattle.std.specs.Prelude.{ℕ, List}
 use Rattle.labels.specs.Meaning.{Meaning}
 use Rattle.rules.specs.Program.{Program}
-use Rattle.rules.specs.LaidOut.{Laid_out}
+use Rattle.rules.specs.LaidOut.{IsLaidOut}
 use Rattle.rules.specs.Named.{Named}
 use Rattle.rules.specs.WellTyped.{WellTyped}
 
 pub record MeetsEveryRule (m : Meaning) (ns : List ℕ) : Type 0 where
   pub programme : Program
-  pub laid_out : Laid_out ns programme
+  pub laid_out : IsLaidOut ns programme
   pub named : Named m programme
   pub well_typed : WellTyped m programme

@@ -13,7 +13,7 @@ use Rattle.image.specs.declared.head.Context.{Context}
 use Rattle.image.specs.declared.instruction.Instruction.{Instruction}
 use Rattle.rules.specs.Program.{Types, Program, tuple_at, block_at, promise, cell_types}
 use Rattle.rules.specs.Types.{label_of, after}
-use Rattle.rules.specs.LaidOut.{Laid_out}
+use Rattle.rules.specs.LaidOut.{IsLaidOut}
 use Rattle.rules.specs.Named.{Named}
 use Rattle.rules.specs.WellTyped.{WellTyped}
 use Rattle.machine.specs.Machine.{State, Outcome, body, run}
@@ -24,7 +24,7 @@ pub record Setting : Type 0 where
   pub lawful : Lawful meaning
   pub image : List ℕ
   pub program : Program
-  pub laid_out : Laid_out image program
+  pub laid_out : IsLaidOut image program
   pub named : Named meaning program
   pub well_typed : WellTyped meaning program
   pub reader : ℕ

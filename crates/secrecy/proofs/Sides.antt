@@ -8,7 +8,7 @@ use native.Mathlib.Omega.{arith}
 use Rattle.labels.specs.Meaning.{Meaning, Lawful}
 use Rattle.rules.specs.Program.{Program}
 use Rattle.rules.specs.Says.{program_of}
-use Rattle.rules.specs.LaidOut.{Laid_out}
+use Rattle.rules.specs.LaidOut.{IsLaidOut}
 use Rattle.rules.specs.Named.{Named}
 use Rattle.rules.specs.WellTyped.{WellTyped}
 use Rattle.rules.specs.Verdict.{Verdict, accepted, refused as refuses, verdict}
@@ -26,7 +26,7 @@ use Rattle.secrecy.proofs.Pace.Pace.{together, first_stopped, second_stopped, bo
 
 -- an image that is accepted spells a programme that meets every rule
 pub record Spells (m : Meaning) (image : List ℕ) : Type 0 where
-  pub laid_out : Laid_out image (program_of image)
+  pub laid_out : IsLaidOut image (program_of image)
   pub named : Named m (program_of image)
   pub well_typed : WellTyped m (program_of image)
 
@@ -37,7 +37,7 @@ pub judged_soundly : VerdictDecides → OneProgramme → VerdictSound
 judged_soundly decides once m law image e =
     let rules = (decides m law image).0 e in
     let same : rules.programme ≡ program_of image = sym (once image rules.programme rules.laid_out) in
-    let (l, n, t) = subst (λ p. Laid_out image p × Named m p × WellTyped m p) same (rules.laid_out, rules.named, rules.well_typed) in
+    let (l, n, t) = subst (λ p. IsLaidOut image p × Named m p × WellTyped m p) same (rules.laid_out, rules.named, rules.well_typed) in
     record { laid_out = l; named = n; well_typed = t }
 
 module _ (m : Meaning) (law : Lawful m) (reader : ℕ) (known : reader < m.count) where

@@ -20,7 +20,7 @@ impl ImageStore {
     pub(crate) fn keep(&mut self, image: &[u32])
         requires fine { may_keep image.now ≡ true }
         requires few { length image.now ≤ 2048 }
-        ensures { stored self.new ≡ record { image = image.entry.now; stopped = false } }
+        ensures { stored self.new ≡ record { image = image.now; stopped = false } }
     {
         let n = image.len();
         self.words[0..n].copy_from_slice(image);
