@@ -1,4 +1,2 @@
-mod Digits
-mod Turns
-mod Shown
+pub mod Digits
 mod Typing

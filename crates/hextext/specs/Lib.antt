@@ -1,4 +1,4 @@
+pub mod WordPart
 pub mod Text
-pub mod Bounds
 pub mod Sentences
 pub mod Typed

@@ -23,30 +23,29 @@ classed b =
     (cond (between 97 102 b) (Digit (b - 97 + 10))
     (cond (b == 10) NewLine
     (cond (b == 32 || between 9 13 b) Space
-    (cond (b == 35) Hash Other)))))
+    (cond (b == 35) Hash (Other b))))))
 
--- A reader's state before a byte, declared in src/state.rt, has how many lines end before the byte, how many bytes of its line stand
--- before it, and whether it stands inside a comment, a word or neither. So its line and column are one more than these numbers.
--- The reader starts between words, with nothing before it.
+-- A reader's state before a byte, declared in src/state.rt, has the byte's line and column, both counted from 1, and whether it
+-- stands inside a comment, a word or neither. The reader starts between words, at line 1, column 1.
 abbrev pub outset : State
-outset = record { lines = 0; bytes = 0; inside = Nothing }
+outset = record { line = 1; column = 1; inside = Nothing }
 
 -- A digit begins a word here, or it is the next of the word that it stands in, which has eight at most. In a comment it is nothing.
 abbrev pub with_digit : State → Inside → ℕ → Result Inside TextError
-with_digit s Nothing d = Ok (Word (record { value = d; digits = 1; column = s.bytes + 1 }))
+with_digit s Nothing d = Ok (Word (record { value = d; digits = 1; column = s.column }))
 with_digit s Comment d = Ok Comment
 with_digit s (Word w) d =
     cond (nat_lt w.digits 8)
     (Ok (Word (record { value = w.value * 16 + d; digits = w.digits + 1; column = w.column })))
-    (Err (WordTooLong (s.lines + 1) w.column))
+    (Err (WordTooLong s.line w.column))
 
 -- What the reader is inside of behind a byte outside a comment, or the error that the byte is.
-abbrev pub outside : State → Class → ℕ → Result Inside TextError
-outside s (Digit d) b = with_digit s s.inside d
-outside s Space b = Ok Nothing
-outside s NewLine b = Ok Nothing
-outside s Hash b = Ok Comment
-outside s Other b = Err (BadCharacter (s.lines + 1) (s.bytes + 1) b)
+abbrev pub outside : State → Class → Result Inside TextError
+outside s (Digit d) = with_digit s s.inside d
+outside s Space = Ok Nothing
+outside s NewLine = Ok Nothing
+outside s Hash = Ok Comment
+outside s (Other b) = Err (BadCharacter s.line s.column b)
 
 -- A comment takes any byte, and ends with its line.
 abbrev pub commented : Class → Inside
@@ -54,24 +53,24 @@ commented (Digit d) = Comment
 commented Space = Comment
 commented NewLine = Nothing
 commented Hash = Comment
-commented Other = Comment
+commented (Other b) = Comment
 
-abbrev pub inside_after : State → Class → ℕ → Result Inside TextError
-inside_after s c b = elim s.inside [ Nothing ↦ outside s c b | Comment ↦ Ok (commented c) | Word w ↦ outside s c b ]
+abbrev pub inside_after : State → Class → Result Inside TextError
+inside_after s c = elim s.inside [ Nothing ↦ outside s c | Comment ↦ Ok (commented c) | Word w ↦ outside s c ]
 
 -- The place behind a byte: the next column, and behind a line feed the start of the next line.
 abbrev pub along : State → Inside → State
-along s i = record { lines = s.lines; bytes = s.bytes + 1; inside = i }
+along s i = record { line = s.line; column = s.column + 1; inside = i }
 
 abbrev pub moved : State → Class → Inside → State
 moved s (Digit d) i = along s i
 moved s Space i = along s i
-moved s NewLine i = record { lines = s.lines + 1; bytes = 0; inside = i }
+moved s NewLine i = record { line = s.line + 1; column = 1; inside = i }
 moved s Hash i = along s i
-moved s Other i = along s i
+moved s (Other b) i = along s i
 
-abbrev pub step : State → Class → ℕ → Result State TextError
-step s c b = elim (inside_after s c b) [ Ok i ↦ Ok (moved s c i) | Err e ↦ Err e ]
+abbrev pub step : State → Class → Result State TextError
+step s c = elim (inside_after s c) [ Ok i ↦ Ok (moved s c i) | Err e ↦ Err e ]
 
 -- The word that the reader is inside of; any byte but a digit ends it, and so does the end of the text.
 abbrev pub unfinished : Inside → Option ℕ
@@ -84,7 +83,7 @@ ended i (Digit d) = None
 ended i Space = unfinished i
 ended i NewLine = unfinished i
 ended i Hash = unfinished i
-ended i Other = unfinished i
+ended i (Other b) = unfinished i
 
 -- A text has words, in their order, or an error.
 pub data Reading : Type 0 where
@@ -94,7 +93,7 @@ pub data Reading : Type 0 where
 -- What is read where the words ws have ended, the reader stands at s, and these bytes are left.
 abbrev pub onward : List ℕ → State → List ℕ → Reading
 onward ws s [] = words (ws ++ option_to_list (unfinished s.inside))
-onward ws s (b ∷ bs) = elim (step s (classed b) b) [ Ok t ↦ onward (ws ++ option_to_list (ended s.inside (classed b))) t bs | Err e ↦ fault e ]
+onward ws s (b ∷ bs) = elim (step s (classed b)) [ Ok t ↦ onward (ws ++ option_to_list (ended s.inside (classed b))) t bs | Err e ↦ fault e ]
 
 abbrev pub reading : List ℕ → Reading
 reading bs = onward [] outset bs

@@ -1,5 +1,4 @@
-ghost use Rattle.std.specs.Prelude.{◌≡◌, ◌<◌, true, Some};
-ghost use Rattle.std.specs.Fmt.{digit_glyph};
+ghost use Rattle.std.specs.Prelude.{◌≡◌, Some};
 ghost use Rattle.hextext.specs.Sentences.{byte_shown, sentence, hint};
 ghost use Rattle.hextext.specs.declared.errors.TextError.TheVariants.{Memory};
 
@@ -49,25 +48,12 @@ impl fmt::Display for Shown {
 
     fn fmt<W: fmt::Write>(&self, f: &mut fmt::Formatter<W>) -> fmt::Result {
         let byte = self.0;
-        if byte >= b' ' && byte <= b'~' {
-            let c = char::from(byte);
-            return write!(f, "'{c}'");
+        if (b' '..=b'~').contains(&byte) {
+            let character = char::from(byte);
+            write!(f, "'{character}'")
+        } else {
+            write!(f, "byte 0x{byte:02X}")
         }
-        let high = figure(byte / 16);
-        let low = figure(byte % 16);
-        write!(f, "byte 0x{high}{low}")
-    }
-}
-
-// A hexadecimal digit, in upper case.
-fn figure(digit: u8) -> char
-    requires { digit < 16 }
-    ensures { result ≡ digit_glyph true digit }
-{
-    if digit < 10 {
-        char::from(b'0' + digit)
-    } else {
-        char::from(b'A' + (digit - 10))
     }
 }
 

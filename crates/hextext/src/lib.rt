@@ -4,14 +4,11 @@
 // specs/Typed.antt as those words.
 #![tactic(auto)]
 
-ghost use Rattle.std.specs.Prelude.{◌≡◌, ◌++◌, MatchResult};
-ghost use Rattle.std.specs.Option.{option_to_list};
-ghost use Rattle.hextext.specs.declared.errors.TextError.TheVariants.{Memory};
 ghost use Rattle.hextext.specs.Text.{Reads};
 ghost use Rattle.hextext.specs.Typed.{ReadsBack};
 
 pub use errors::TextError;
-use state::{State, class_of};
+use state::{Class, State};
 use std::alloc::Global;
 
 pub mod errors;
@@ -23,25 +20,15 @@ pub fn read_words(heap: Global, text: &[u8]) -> Result<Vec<u32>, TextError>
     ensures back { ReadsBack text.now result }
 {
     let mut words = Vec::new(heap);
-    let mut state = State::new();
+    let mut state = State::START;
     for byte in text {
-        let class = class_of(*byte);
-        let next = state.after(class, *byte)?;
-        keep(&mut words, state.ended_by(class))?;
+        let class = Class::from(*byte);
+        let next = state.after(&class)?;
+        words.extend(state.ended_by(&class))?;
         state = next;
     }
-    keep(&mut words, state.unfinished())?;
+    words.extend(state.unfinished())?;
     Ok(words)
-}
-
-// Adds the word, if there is one.
-fn keep(words: &mut Vec<u32>, word: Option<u32>) -> Result<(), TextError>
-    ensures { MatchResult result (λ _. words.new.items ≡ words.old.items ++ option_to_list word) (λ e. e ≡ Memory) }
-{
-    if let Some(word) = word {
-        words.push(word)?;
-    }
-    Ok(())
 }
 
 #[cfg(test)]

@@ -1,26 +1,75 @@
 // Where a reader of a text stands, byte by byte.
-ghost use Rattle.std.specs.Prelude.{◌≡◌, ◌+◌, ◌<◌, ◌≤◌, IfOk};
-ghost use Rattle.hextext.specs.Bounds.{Hexadecimal, Room, Short};
-ghost use Rattle.hextext.specs.Text.{classed, outset, ended, unfinished, with_digit, inside_after, step};
+ghost use Rattle.std.specs.Prelude.{◌≡◌, ◌+◌, ◌^◌, ◌<◌, ◌≤◌, IfOk};
+ghost use Rattle.hextext.specs.Text.{classed, ended, unfinished, with_digit, inside_after, step};
 
 use crate::TextError;
+use std::marker::Model;
 
-// What a byte is outside a comment; a digit with its value.
+// The value of a hexadecimal digit. Its bound stands in a model, as that of `Part` does, and not in a
+// ghost field: the definitions in specs/ make such values, and would owe a proof for each.
+#[derive(Clone, Copy)]
+pub struct HexDigit {
+    value: u32,
+}
+
+impl Model for HexDigit {
+    ghost use Rattle.std.specs.Prelude.{ℕ, ◌<◌};
+
+    ghost Value = { ℕ };
+
+    ghost view = { λ d. d.value };
+
+    ghost invariant = { λ d. d.value < 16 };
+
+    ghost inverse = { λ n. record { value = n } };
+}
+
+// What a byte is outside a comment.
 #[derive(Clone, Copy)]
 pub enum Class {
-    Digit(u8),
+    Digit(HexDigit),
     Space,
     NewLine,
     Hash,
-    Other,
+    Other(u8),
+}
+
+impl From<u8> for Class {
+    ghost from_gives = { λ b c. c ≡ classed b };
+
+    fn from(byte: u8) -> Class {
+        match byte {
+            b'\n' => Class::NewLine,
+            b' ' | b'\t' | b'\r' | 0x0B | 0x0C => Class::Space,
+            b'#' => Class::Hash,
+            _ => match char::from(byte).to_digit(16) {
+                Some(value) => Class::Digit(HexDigit { value }),
+                None => Class::Other(byte),
+            },
+        }
+    }
 }
 
 // The digits of a word that were read so far: their value, how many they are, and the column of the first.
 #[derive(Clone, Copy)]
 pub struct Part {
-    pub value: u32,
-    pub digits: u8,
-    pub column: usize,
+    value: u32,
+    digits: u8,
+    column: usize,
+}
+
+impl Model for Part {
+    ghost use Rattle.std.specs.Prelude.{◌^◌, ◌<◌, ◌≤◌};
+    ghost use Rattle.hextext.specs.WordPart.{WordPart};
+
+    ghost Value = { WordPart };
+
+    ghost view = { λ p. record { value = p.value; digits = p.digits; column = p.column } };
+
+    // eight hexadecimal digits have 32 bits
+    ghost invariant = { λ p. (p.digits ≤ 8) × (p.value < 16 ^ p.digits) };
+
+    ghost inverse = { λ w. record { value = w.value; digits = w.digits; column = w.column } };
 }
 
 // What the reader is inside of: between words nothing, a comment, or a word of which this part was read.
@@ -31,39 +80,21 @@ pub enum Inside {
     Word(Part),
 }
 
-// Before a byte: how many lines end before it, how many bytes of its own line stand before it, and what it stands inside of.
+// Before a byte: its line and column, and what it stands inside of.
 #[derive(Clone, Copy)]
 pub struct State {
-    pub lines: usize,
-    pub bytes: usize,
+    pub line: usize,
+    pub column: usize,
     pub inside: Inside,
 }
 
-pub fn class_of(byte: u8) -> Class
-    ensures value { result ≡ classed byte }
-    ensures bound { Hexadecimal result }
-{
-    match byte {
-        b'0'..=b'9' => Class::Digit(byte - b'0'),
-        b'A'..=b'F' => Class::Digit(byte - b'A' + 10),
-        b'a'..=b'f' => Class::Digit(byte - b'a' + 10),
-        b'\n' => Class::NewLine,
-        b' ' | b'\t' | b'\r' | 0x0B | 0x0C => Class::Space,
-        b'#' => Class::Hash,
-        _ => Class::Other,
-    }
-}
-
 impl State {
-    pub fn new() -> State
-        ensures { result ≡ outset }
-    {
-        State {
-            lines: 0,
-            bytes: 0,
-            inside: Inside::Nothing,
-        }
-    }
+    // Before the first byte of a text.
+    pub const START: State = State {
+        line: 1,
+        column: 1,
+        inside: Inside::Nothing,
+    };
 
     // The word that the reader is inside of.
     pub fn unfinished(&self) -> Option<u32>
@@ -76,8 +107,8 @@ impl State {
     }
 
     // The word that a byte of this class ends.
-    pub fn ended_by(&self, class: Class) -> Option<u32>
-        ensures { result ≡ ended self.now.inside class }
+    pub fn ended_by(&self, class: &Class) -> Option<u32>
+        ensures { result ≡ ended self.now.inside class.now }
     {
         match class {
             Class::Digit(_) => None,
@@ -86,71 +117,65 @@ impl State {
     }
 
     // What the reader is inside of behind a digit.
-    fn with_digit(&self, digit: u8) -> Result<Inside, TextError>
-        requires room { Room self.now }
-        requires bound { digit < 16 }
-        ensures value { result ≡ with_digit self.now self.now.inside digit }
-        ensures bound { IfOk result (λ o. Short o) }
+    #[tactic(auto, using(crate::proofs::Digits::seven_digits))]
+    fn with_digit(&self, digit: HexDigit) -> Result<Inside, TextError>
+        ensures { result ≡ with_digit self.now self.now.inside digit }
     {
         match self.inside {
             Inside::Nothing => Ok(Inside::Word(Part {
-                value: u32::from(digit),
+                value: digit.value,
                 digits: 1,
-                column: self.bytes + 1,
+                column: self.column,
             })),
             Inside::Comment => Ok(Inside::Comment),
             Inside::Word(part) if part.digits < 8 => Ok(Inside::Word(Part {
-                value: part.value * 16 + u32::from(digit),
+                value: part.value * 16 + digit.value,
                 digits: part.digits + 1,
                 ..part
             })),
             Inside::Word(part) => Err(TextError::WordTooLong {
-                line: self.lines + 1,
+                line: self.line,
                 column: part.column,
             }),
         }
     }
 
     // What the reader is inside of behind a byte of this class.
-    fn inside_after(&self, class: Class, byte: u8) -> Result<Inside, TextError>
-        requires room { Room self.now }
-        requires bound { Hexadecimal class }
-        ensures value { result ≡ inside_after self.now class byte }
-        ensures bound { IfOk result (λ o. Short o) }
+    fn inside_after(&self, class: &Class) -> Result<Inside, TextError>
+        ensures { result ≡ inside_after self.now class.now }
     {
-        match (self.inside, class) {
+        match (&self.inside, class) {
             (Inside::Comment, Class::NewLine) => Ok(Inside::Nothing),
             (Inside::Comment, _) => Ok(Inside::Comment),
-            (_, Class::Digit(digit)) => self.with_digit(digit),
+            (_, Class::Digit(digit)) => self.with_digit(*digit),
             (_, Class::Space | Class::NewLine) => Ok(Inside::Nothing),
             (_, Class::Hash) => Ok(Inside::Comment),
-            (_, Class::Other) => Err(TextError::BadCharacter {
-                line: self.lines + 1,
-                column: self.bytes + 1,
-                byte,
+            (_, Class::Other(byte)) => Err(TextError::BadCharacter {
+                line: self.line,
+                column: self.column,
+                byte: *byte,
             }),
         }
     }
 
-    // Where the reader stands behind the byte, or the error that the byte is.
-    pub fn after(&self, class: Class, byte: u8) -> Result<State, TextError>
-        requires room { Room self.now }
-        requires bound { Hexadecimal class }
-        ensures value { result ≡ step self.now class byte }
-        ensures lines { IfOk result (λ t. t.lines ≤ self.now.lines + 1) }
-        ensures bytes { IfOk result (λ t. t.bytes ≤ self.now.bytes + 1) }
-        ensures bound { IfOk result (λ t. Short t.inside) }
+    // Where the reader stands behind a byte of this class, or the error that the byte is.
+    pub fn after(&self, class: &Class) -> Result<State, TextError>
+        requires line { self.now.line + 1 < 2 ^ 64 }
+        requires column { self.now.column + 1 < 2 ^ 64 }
+        ensures value { result ≡ step self.now class.now }
+        ensures line { IfOk result (λ t. t.line ≤ self.now.line + 1) }
+        ensures column { IfOk result (λ t. t.column ≤ self.now.column + 1) }
     {
-        let inside = self.inside_after(class, byte)?;
+        let inside = self.inside_after(class)?;
         match class {
             Class::NewLine => Ok(State {
-                lines: self.lines + 1,
-                bytes: 0,
+                line: self.line + 1,
+                column: 1,
                 inside,
             }),
             _ => Ok(State {
-                lines: self.lines,
-                bytes: self.bytes + 1,
+                line: self.line,
+                column: self.column + 1,
                 inside,
             }),
         }
