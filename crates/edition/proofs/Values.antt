@@ -1,8 +1,12 @@
 -- A value that is cut down to the first number past 32 bits stays so whatever digits follow.
-use Rattle.std.proofs.Common.{◌≡◌, ℕ, ◌+◌, ◌*◌, ◌<◌, ◌≤◌, min, List, [], ◌∷◌, length, get_or, drop, Some, None, Option, sym, refl, ap, ◌∙◌, inl, inr, mul-le-mul, arith}
-use Rattle.std.proofs.lemmas.List.{at_drop_more, at_drop_all}
+use Rattle.std.proofs.Common.{◌≡◌, ℕ, ◌+◌, ◌*◌, ◌<◌, ◌≤◌, min, cond, List, [], ◌∷◌, length, get_or, drop, Some, None, Option, sym, refl, ap, ◌∙◌, inl, inr, mul-le-mul, arith}
+use Rattle.std.proofs.lemmas.List.{at_drop_more}
 use Rattle.std.proofs.lemmas.Bool.{cases_lt}
-use Rattle.edition.specs.Numbers.{digit_in, value_on, value_in, capped}
+use Rattle.std.proofs.lemmas.Bool.Decides.{nat_tests}
+use Rattle.std.specs.Char.{digit_value}
+use Rattle.std.specs.Option.{SomeIff}
+use Rattle.std.specs.Prelude.{nat_lt}
+use Rattle.edition.specs.Numbers.{digit_in, value_on, capped}
 
 module _ (base : ℕ) (pos : 1 ≤ base) where
   -- one more digit
@@ -34,9 +38,10 @@ module _ (base : ℕ) (pos : 1 ≤ base) where
     pub at_digit : (o : Option ℕ) → o ≡ digit_in base (get_or digits i 0) → value_on base v (drop i digits) ≡ behind v (drop (i + 1) digits) o
     at_digit o e = at_drop_more (value_on base v) digits i 0 h ∙ ap (behind v (drop (i + 1) digits)) (sym e)
 
-  pub at_end : (digits : List ℕ) (i v : ℕ) → length digits ≤ i → value_on base v (drop i digits) ≡ Some v
-  at_end digits i v h = at_drop_all (value_on base v) digits i h
+digit_by_value : (base b : ℕ) → base ≤ 16 → digit_in base b ≡ cond (nat_lt (digit_value b) base) (Some (digit_value b)) None
+digit_by_value base b h = grind (arith, nat_tests)
 
-pub some_digits : (base : ℕ) (digits : List ℕ) → 0 < length digits → value_in base digits ≡ value_on base 0 digits
-some_digits base [] h = absurd (omega arith)
-some_digits base (b ∷ bs) h = refl
+-- the library's digits are the digits of a base up to 16
+pub digit_is : (base b : ℕ) (o : Option ℕ) → base ≤ 16 → SomeIff o (digit_value b < base) (digit_value b) → o ≡ digit_in base b
+digit_is base b None h none = grind (arith, nat_tests, digit_by_value base b h)
+digit_is base b (Some d) h some = grind (arith, nat_tests, digit_by_value base b h)

@@ -1,7 +1,5 @@
 -- A line's text, which ends where a comment starts, and its fields, which blanks part.
-use Rattle.std.specs.Prelude.{◌≡◌, ℕ, ◌+◌, ◌-◌, ◌<◌, ◌≤◌, Bool, cond, ◌||◌, List, [], ◌∷◌, ◌++◌, length, drop, Some, None, Option, ◌==◌}
-use Rattle.std.specs.List.{between}
-use Rattle.edition.specs.declared.fields.Span.{Span}
+use Rattle.std.specs.Prelude.{ℕ, ◌+◌, ◌-◌, ◌<◌, ◌≤◌, Bool, true, false, cond, ◌||◌, List, [], ◌∷◌, ◌++◌, length, drop, slice_index, ◌==◌}
 
 -- what stands before the first number sign
 abbrev pub text_of : List ℕ → List ℕ
@@ -41,19 +39,8 @@ fields_from text from = cut from [] (drop from text)
 abbrev pub fields : List ℕ → List Field
 fields text = fields_from text 0
 
-abbrev pub span_bytes : List ℕ → Span → List ℕ
-span_bytes text s = between s.start s.end text
-
-abbrev pub spanned : List ℕ → Span → Field
-spanned text s = record { column = s.start + 1; bytes = span_bytes text s }
-
--- a part of the text from a byte on, with at least one byte
-pub record Within (text : List ℕ) (from : ℕ) (s : Span) : Type 0 where
-  pub low : from ≤ s.start
-  pub some : s.start < s.end
-  pub high : s.end ≤ length text
-
--- the first field from a byte on, where there is one
-abbrev pub First : List ℕ → ℕ → Option Span → Type 0
-First text from None = fields_from text from ≡ []
-First text from (Some s) = Within text from s × (fields_from text from ≡ spanned text s ∷ fields_from text s.end)
+-- n bytes at the front pass a test, whose answers these are, and the byte behind them, where there is one, does not
+pub record IsRun (answers : ℕ → Bool → Type 0) (bs : List ℕ) (n : ℕ) : Type 0 where
+  pub within : n ≤ length bs
+  pub pass : (i : ℕ) → i < n → answers (slice_index bs i) true
+  pub stops : n < length bs → answers (slice_index bs n) false

@@ -62,17 +62,11 @@ impl fmt::Display for Part {
         match *self {
             Self::Command => write!(f, "'load' or 'job'"),
             Self::Name => write!(f, "the job's name"),
-            Self::Keyword(setting) => {
-                let keyword = setting.keyword();
-                write!(f, "the keyword '{keyword}'")
-            }
-            Self::Number(setting) => {
-                let keyword = setting.keyword();
-                write!(
-                    f,
-                    "a number for '{keyword}', in decimal or as 0x and hexadecimal digits"
-                )
-            }
+            Self::Keyword(setting) => write!(f, "the keyword '{setting}'"),
+            Self::Number(setting) => write!(
+                f,
+                "a number for '{setting}', in decimal or as 0x and hexadecimal digits"
+            ),
         }
     }
 }
@@ -92,13 +86,10 @@ impl fmt::Display for LineError {
                 column,
                 setting,
                 limit,
-            } => {
-                let keyword = setting.keyword();
-                write!(
-                    f,
-                    "column {column}: the number for '{keyword}' is too large, at most {limit}"
-                )
-            }
+            } => write!(
+                f,
+                "column {column}: the number for '{setting}' is too large, at most {limit}"
+            ),
             Self::Surplus { column } => write!(
                 f,
                 "column {column}: 'load' stands alone on its line"

@@ -1,94 +1,83 @@
 // The fields of a line.
-ghost use Rattle.std.specs.Prelude.{◌≡◌, ◌<◌, ◌≤◌, true, false, length, take, drop, slice_index};
-ghost use Rattle.std.specs.List.{between};
-ghost use Rattle.std.specs.Str.{bytes_eq};
-ghost use Rattle.edition.specs.Fields.{blank, cut, text_of, fields_from, span_bytes, First, Within};
+ghost use Rattle.std.specs.Prelude.{◌≡◌, ◌≤◌, length};
+ghost use Rattle.edition.specs.Fields.{blank, IsRun};
 
-// A field as a part of a text, from the byte `start` up to the byte `end`.
+// A field, with the column of its first byte, from 1.
 #[derive(Clone, Copy)]
-pub struct Span {
-    pub start: usize,
-    pub end: usize,
+pub struct Field<'a> {
+    pub column: usize,
+    pub bytes: &'a [u8],
 }
 
-impl Span {
-    // The bytes of the field.
-    pub fn of<'a>(self, text: &'a [u8]) -> &'a [u8]
-        requires { Within text.now 0 self }
-        ensures { result.now ≡ span_bytes text.now self }
-    {
-        let Span { start, end } = self;
-        &text[start..end]
-    }
-
-    // Whether the field is this word.
-    pub fn is(self, text: &[u8], word: &str) -> bool
-        requires { Within text.now 0 self }
-        ensures { result ≡ bytes_eq (span_bytes text.now self) word.now }
-    {
-        self.of(text) == word.as_bytes()
-    }
+// The fields of a text that are still to come: those from the byte `at` on.
+#[derive(Drop)]
+pub struct Fields<'a> {
+    text: &'a [u8],
+    at: usize,
+    ghost inside: { at ≤ length text.now },
 }
 
 fn is_blank(byte: u8) -> bool
     ensures { result ≡ blank byte }
 {
-    byte == b' ' || byte == b'\t' || byte == b'\r'
+    matches!(byte, b' ' | b'\t' | b'\r')
 }
 
-// How many bytes stand before the comment, or in the whole line where it has none.
-pub fn text_end(line: &[u8]) -> usize
-    ensures within { result ≤ length line.now }
-    ensures text { take result line.now ≡ text_of line.now }
+// How many bytes at the front pass the test.
+fn run<F: Fn(u8) -> bool>(bytes: &[u8], passes: F) -> usize
+    requires { F.IsAlwaysCallable passes }
+    ensures { IsRun (F.post passes) bytes.now result }
 {
-    for (i, byte) in line.iter().enumerate() {
-        if *byte == b'#' {
-            return i;
+    bytes.iter().take_while(|byte| passes(**byte)).count()
+}
+
+impl<'a> Fields<'a> {
+    ghost use Rattle.std.specs.Prelude.{◌≡◌, ◌+◌, length};
+    ghost use Rattle.edition.specs.Fields.{text_of, fields};
+    ghost use Rattle.edition.specs.Cursor.{size, to_come};
+
+    // The fields of a line's text, which ends where a comment starts.
+    pub fn of(line: &'a [u8]) -> Fields<'a>
+        ensures size { size result ≡ length (text_of line.now) }
+        ensures fields { to_come result ≡ fields (text_of line.now) }
+    {
+        let end = run(line, |byte| byte != b'#');
+        Fields {
+            text: &line[..end],
+            at: 0,
         }
     }
-    line.len()
-}
 
-// The first byte from `from` on that is no blank, or the end of the text.
-fn skip_blanks(text: &[u8], from: usize) -> usize
-    requires { from ≤ length text.now }
-    ensures low { from ≤ result }
-    ensures high { result ≤ length text.now }
-    ensures same { fields_from text.now result ≡ fields_from text.now from }
-    ensures stops { result < length text.now → blank (slice_index text.now result) ≡ false }
-{
-    let mut at = from;
-    while at < text.len() && is_blank(text[at]) {
-        at += 1;
+    // The column at which the text ends: one past its last byte.
+    pub fn end_column(&self) -> usize
+        ensures { result ≡ size self.now + 1 }
+    {
+        self.text.len() + 1
     }
-    at
 }
 
-// The first blank from `start` on, or the end of the text.
-fn field_end(text: &[u8], start: usize) -> usize
-    requires { start ≤ length text.now }
-    ensures low { start ≤ result }
-    ensures high { result ≤ length text.now }
-    ensures same { cut result (between start result text.now) (drop result text.now) ≡ fields_from text.now start }
-    ensures stops { result < length text.now → blank (slice_index text.now result) ≡ true }
-{
-    let mut at = start;
-    while at < text.len() && !is_blank(text[at]) {
-        at += 1;
-    }
-    at
-}
+impl<'a> Iterator for Fields<'a> {
+    ghost use Rattle.std.specs.Iterator.{item_count};
+    ghost use Rattle.edition.specs.Cursor.{to_come, HandsOut};
 
-// The first field from `from` on.
-pub fn field_at(text: &[u8], from: usize) -> Option<Span>
-    requires { from ≤ length text.now }
-    ensures { First text.now from result }
-{
-    let start = skip_blanks(text, from);
-    let end = field_end(text, start);
-    if start < end {
-        Some(Span { start, end })
-    } else {
-        None
+    type Item = Field<'a>;
+
+    ghost next_gives = { HandsOut };
+
+    ghost remaining = { item_count to_come };
+
+    fn next(&mut self) -> Option<Field<'a>> {
+        let text = self.text;
+        let start = self.at + run(&text[self.at..], is_blank);
+        let rest = &text[start..];
+        let size = run(rest, |byte| !is_blank(byte));
+        if size == 0 {
+            return None;
+        }
+        self.at = start + size;
+        Some(Field {
+            column: start + 1,
+            bytes: &rest[..size],
+        })
     }
 }

@@ -3,15 +3,14 @@
 // `read_line` is proved to answer that.
 #![tactic(auto)]
 
-ghost use Rattle.std.specs.Prelude.{◌≡◌, ◌≤◌, [], length, Ok, MatchResult};
-ghost use Rattle.edition.specs.Fields.{fields, fields_from};
+ghost use Rattle.std.specs.Prelude.{◌≡◌, [], Ok, MatchResult};
+ghost use Rattle.edition.specs.Cursor.{size, to_come};
 ghost use Rattle.edition.specs.Lines.{Refuses, job_from, said_by};
 ghost use Rattle.edition.specs.Reading.{EntryRead, Reads, with_heading};
 
 pub use entry::{Entry, Job};
 pub use errors::{LineError, Part};
-use fields::{field_at, text_end};
-use reader::{keyword_at, setting_at, words_at};
+use fields::{Field, Fields};
 pub use setting::{PRESS_MEMORY, Setting};
 
 pub mod entry;
@@ -27,62 +26,50 @@ pub fn read_line<'a>(line: &'a [u8], words: &mut Vec<u32>) -> Result<Entry<'a>, 
     ensures { Reads line.now result words.new.items }
 {
     words.clear();
-    let end = text_end(line);
-    let read = entry_in(&line[0..end], words);
+    let read = entry_in(Fields::of(line), words);
     if read.is_err() {
         words.clear();
     }
     read
 }
 
-// What a line with this text is for.
-fn entry_in<'a>(text: &'a [u8], words: &mut Vec<u32>) -> Result<Entry<'a>, LineError>
+// What a line with these fields is for.
+fn entry_in<'a>(mut fields: Fields<'a>, words: &mut Vec<u32>) -> Result<Entry<'a>, LineError>
     requires { words.old.items ≡ [] }
-    ensures { MatchResult result (λ e. EntryRead (said_by (length text.now) (fields text.now)) e words.new.items) (Refuses (said_by (length text.now) (fields text.now))) }
+    ensures { MatchResult result (λ e. EntryRead (said_by (size fields.entry) (to_come fields.entry)) e words.new.items) (Refuses (said_by (size fields.entry) (to_come fields.entry))) }
 {
-    let Some(command) = field_at(text, 0) else {
+    let Some(command) = fields.next() else {
         return Ok(Entry::Nothing);
     };
-    if command.is(text, "load") {
-        return match field_at(text, command.end) {
+    match command.bytes {
+        b"load" => match fields.next() {
             None => Ok(Entry::Load),
-            Some(extra) => Err(LineError::Surplus {
-                column: extra.start + 1,
-            }),
-        };
+            Some(Field { column, .. }) => Err(LineError::Surplus { column }),
+        },
+        b"job" => Ok(Entry::Job(job_in(fields, words)?)),
+        _ => Err(LineError::Unexpected {
+            column: command.column,
+            part: Part::Command,
+        }),
     }
-    if command.is(text, "job") {
-        let job = job_in(text, command.end, words)?;
-        return Ok(Entry::Job(job));
-    }
-    Err(LineError::Unexpected {
-        column: command.start + 1,
-        part: Part::Command,
-    })
 }
 
-// The job whose name and settings stand from `from` on.
-fn job_in<'a>(text: &'a [u8], from: usize, words: &mut Vec<u32>) -> Result<Job<'a>, LineError>
-    requires start { from ≤ length text.now }
-    requires empty { words.old.items ≡ [] }
-    ensures { MatchResult result (λ j. job_from (length text.now) (fields_from text.now from) ≡ Ok (with_heading j words.new.items)) (Refuses (job_from (length text.now) (fields_from text.now from))) }
+// The job whose name and settings these fields are. Its words are left in `words`.
+fn job_in<'a>(mut fields: Fields<'a>, words: &mut Vec<u32>) -> Result<Job<'a>, LineError>
+    requires { words.old.items ≡ [] }
+    ensures { MatchResult result (λ j. job_from (size fields.entry) (to_come fields.entry) ≡ Ok (with_heading j words.new.items)) (Refuses (job_from (size fields.entry) (to_come fields.entry))) }
 {
-    let Some(name) = field_at(text, from) else {
-        return Err(LineError::Missing {
-            column: text.len() + 1,
-            part: Part::Name,
-        });
-    };
-    let fuel = setting_at(text, name.end, Setting::Fuel)?;
-    let strip = setting_at(text, fuel.end, Setting::Strip)?;
-    let sheet = setting_at(text, strip.end, Setting::Sheet)?;
-    let at = keyword_at(text, sheet.end, Setting::Words)?;
-    words_at(text, at, words)?;
+    let name = fields.wanted(Part::Name)?;
+    let fuel = fields.setting(Setting::Fuel)?;
+    let strip = fields.setting(Setting::Strip)?;
+    let sheet = fields.setting(Setting::Sheet)?;
+    fields.keyword(Setting::Words)?;
+    fields.words(words)?;
     Ok(Job {
-        name: name.of(text),
-        fuel: fuel.value,
-        strip: strip.value as usize,
-        sheet: sheet.value as usize,
+        name: name.bytes,
+        fuel,
+        strip: strip as usize,
+        sheet: sheet as usize,
     })
 }
 

@@ -1,35 +1,13 @@
 // Numbers as they are written.
-ghost use Rattle.std.specs.Prelude.{◌≡◌, ◌<◌, ◌≤◌, IfSome};
-ghost use Rattle.edition.specs.Numbers.{digit_of, digit_in, value_in, number_of, capped};
+ghost use Rattle.std.specs.Prelude.{◌≡◌, ◌≤◌};
+ghost use Rattle.edition.specs.Numbers.{value_in, number_of, capped};
 
 // The first number that has more than 32 bits: what each larger one counts as.
 const TOO_LARGE: u64 = 0x1_0000_0000;
 
-fn digit_of(byte: u8) -> Option<u8>
-    ensures { result ≡ digit_of byte }
-{
-    match byte {
-        b'0'..=b'9' => Some(byte - b'0'),
-        b'A'..=b'F' => Some(byte - b'A' + 10),
-        b'a'..=b'f' => Some(byte - b'a' + 10),
-        _ => None,
-    }
-}
-
-// The digit of the base that the byte is.
-fn digit_in(base: u64, byte: u8) -> Option<u64>
-    ensures value { result ≡ digit_in base byte }
-    ensures bound { IfSome result (λ d. d < base) }
-{
-    match digit_of(byte) {
-        Some(digit) if u64::from(digit) < base => Some(u64::from(digit)),
-        _ => None,
-    }
-}
-
-// The value of digits, which are one at least.
-fn value_in(base: u64, digits: &[u8]) -> Option<u64>
-    requires low { 1 ≤ base }
+// The value of digits of a base up to 16, which are one at least.
+fn value_in(base: u32, digits: &[u8]) -> Option<u64>
+    requires low { 2 ≤ base }
     requires high { base ≤ 16 }
     ensures { result ≡ capped (value_in base digits.now) }
 {
@@ -38,10 +16,8 @@ fn value_in(base: u64, digits: &[u8]) -> Option<u64>
     }
     let mut value: u64 = 0;
     for byte in digits {
-        let Some(digit) = digit_in(base, *byte) else {
-            return None;
-        };
-        value = (value * base + digit).min(TOO_LARGE);
+        let digit = char::from(*byte).to_digit(base)?;
+        value = (value * u64::from(base) + u64::from(digit)).min(TOO_LARGE);
     }
     Some(value)
 }

@@ -1,6 +1,8 @@
 // The settings of a job.
-ghost use Rattle.std.specs.Prelude.{◌≡◌};
+ghost use Rattle.std.specs.Prelude.{◌≡◌, Some};
 ghost use Rattle.edition.specs.Settings.{keyword_of, limit_of};
+
+use std::fmt;
 
 // How many words the press memory holds: a strip and a sheet have at most so many.
 pub const PRESS_MEMORY: u32 = 65536;
@@ -35,5 +37,13 @@ impl Setting {
             Setting::Fuel | Setting::Words => u32::MAX,
             Setting::Strip | Setting::Sheet => PRESS_MEMORY,
         }
+    }
+}
+
+impl fmt::Display for Setting {
+    ghost output = { λ s. Some (keyword_of s) };
+
+    fn fmt<W: fmt::Write>(&self, f: &mut fmt::Formatter<W>) -> fmt::Result {
+        f.write_str(self.keyword())
     }
 }

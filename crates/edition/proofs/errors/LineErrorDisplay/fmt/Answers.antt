@@ -7,5 +7,4 @@ pub returns-in-TooLarge-clause-writes : goal.returns-in-TooLarge-clause-writes
 returns-in-TooLarge-clause-writes g c =
     λ plain ok.
     let w = c.write-in-TooLarge in
-    subst (λ e. HasWritten g.W.Write.write_str_gives c.args.f.now (sentence e) w.new.self) (sym c.in-TooLarge.is)
-    (rw (sym c.keyword-keyword.ensures) (w.ensures.writes plain ok))
+    subst (λ e. HasWritten g.W.Write.write_str_gives c.args.f.now (sentence e) w.new.self) (sym c.in-TooLarge.is) (w.ensures.writes plain ok)
