@@ -4,111 +4,123 @@
 
 use card::card;
 use labels::Stage;
-use machine::ran::End;
 use machine::strike::Strike;
 use press_box::imprint_box::{ImprintBox, stage_box};
-use std::{fmt, io};
+use std::io;
 
 // What a strip or a sheet holds before a call, so that a change shows.
 const BLANK: u32 = 255;
 
+// A job, and what is given to a run beside it: fuel, a strip with room for so many strikes, and a sheet of so many words.
 #[derive(Clone, Copy)]
-struct Ended(End);
-
-impl fmt::Display for Ended {
-    fn fmt<W: fmt::Write>(&self, f: &mut fmt::Formatter<W>) -> fmt::Result {
-        match self.0 {
-            End::Halted => write!(f, "halted"),
-            End::Spent => write!(f, "spent"),
-            End::Full => write!(f, "full"),
-        }
-    }
-}
-
-fn load(
-    rt: &HostRuntime,
-    press: &mut ImprintBox<Stage>,
-    what: &str,
-    image: &[u32],
-) -> io::Result<()> {
-    match press.load(image) {
-        Ok(()) => println!(rt; "{what}: accepted"),
-        Err(fault) => {
-            let number = fault.number();
-            let place = fault.place();
-            println!(rt; "{what}: refused {number} at word {place}")
-        }
-    }
-}
-
-// A run with strip and sheet of these lengths, and all that they hold afterwards.
-fn run(
-    rt: &HostRuntime,
-    press: &mut ImprintBox<Stage>,
-    what: &str,
-    job: &[u32],
+struct Trial<'a> {
+    job: &'a [u32],
     fuel: u32,
     room: usize,
     words: usize,
-) -> io::Result<()> {
-    let mut strip = vec![in rt.alloc(); Strike {
-        channel: 255,
-        word: BLANK
-    }; room]?;
-    let mut sheet = vec![in rt.alloc(); BLANK; words]?;
-    match press.run(job, fuel, strip.as_mut_slice(), sheet.as_mut_slice()) {
-        Ok(ran) => {
-            let end = Ended(ran.end);
-            let steps = ran.steps;
-            let strikes = ran.strikes;
-            print!(rt; "{what}: {end} after {steps} steps, {strikes} struck;")?;
+}
+
+// The card's job, with just what it needs.
+const WHOLE: Trial<'static> = Trial {
+    job: &[7, 9],
+    fuel: 6,
+    room: 2,
+    words: 2,
+};
+
+fn with_job(job: &[u32]) -> Trial<'_> {
+    Trial { job, ..WHOLE }
+}
+
+// A box on which calls are tried.
+#[derive(Drop)]
+struct Bench<'a> {
+    rt: &'a HostRuntime,
+    press: ImprintBox<Stage>,
+}
+
+impl Bench<'_> {
+    fn load(&mut self, what: &str, image: &[u32]) -> io::Result<()> {
+        match self.press.load(image) {
+            Ok(()) => println!(self.rt; "{what}: accepted"),
+            Err(fault) => {
+                let number = fault.number();
+                let place = fault.place();
+                println!(self.rt; "{what}: refused {number} at word {place}")
+            }
         }
-        Err(fault) => {
-            let number = fault.number();
-            print!(rt; "{what}: refused {number};")?;
+    }
+
+    // A run, and all that strip and sheet hold afterwards.
+    fn run(&mut self, what: &str, trial: Trial<'_>) -> io::Result<()> {
+        let rt = self.rt;
+        let blank = Strike {
+            channel: 255,
+            word: BLANK,
+        };
+        let mut strip = vec![in rt.alloc(); blank; trial.room]?;
+        let mut sheet = vec![in rt.alloc(); BLANK; trial.words]?;
+        match self.press.run(
+            trial.job,
+            trial.fuel,
+            strip.as_mut_slice(),
+            sheet.as_mut_slice(),
+        ) {
+            Ok(ran) => {
+                let end = ran.end;
+                let steps = ran.steps;
+                let strikes = ran.strikes;
+                print!(rt; "{what}: {end} after {steps} steps, {strikes} struck;")?;
+            }
+            Err(fault) => {
+                let number = fault.number();
+                print!(rt; "{what}: refused {number};")?;
+            }
         }
+        print!(rt; " strip")?;
+        for strike in strip.iter() {
+            print!(rt; " ({}, {})", strike.channel, strike.word)?;
+        }
+        print!(rt; "; sheet")?;
+        for word in sheet.iter() {
+            print!(rt; " {word}")?;
+        }
+        println!(rt; "")
     }
-    print!(rt; " strip")?;
-    for strike in strip.iter() {
-        let channel = strike.channel;
-        let word = strike.word;
-        print!(rt; " ({channel}, {word})")?;
-    }
-    print!(rt; "; sheet")?;
-    for word in sheet.iter() {
-        let word = *word;
-        print!(rt; " {word}")?;
-    }
-    println!(rt; "")
 }
 
 fn main(rt: HostRuntime) -> io::Result<()> {
-    let mut press = stage_box();
-    let job = [7, 9];
+    let mut bench = Bench {
+        rt: &rt,
+        press: stage_box(),
+    };
     let card = card();
-    run(&rt, &mut press, "empty box", &job, 6, 2, 2)?;
-    load(&rt, &mut press, "the card", &card)?;
-    run(&rt, &mut press, "fuel 6", &job, 6, 2, 2)?;
-    run(&rt, &mut press, "longer strip and sheet", &job, 6, 3, 3)?;
-    run(&rt, &mut press, "a job of one word", &[7], 6, 2, 2)?;
-    run(&rt, &mut press, "a job of three words", &[7, 9, 1], 6, 2, 2)?;
-    run(&rt, &mut press, "a sheet of one word", &job, 6, 2, 1)?;
-    run(&rt, &mut press, "a strip of one record", &job, 6, 1, 2)?;
-    run(&rt, &mut press, "stopped by it", &job, 6, 2, 2)?;
+    bench.run("empty box", WHOLE)?;
+    bench.load("the card", &card)?;
+    bench.run("fuel 6", WHOLE)?;
+    let longer = Trial {
+        room: 3,
+        words: 3,
+        ..WHOLE
+    };
+    bench.run("longer strip and sheet", longer)?;
+    bench.run("a job of one word", with_job(&[7]))?;
+    bench.run("a job of three words", with_job(&[7, 9, 1]))?;
+    bench.run("a sheet of one word", Trial { words: 1, ..WHOLE })?;
+    bench.run("a strip of one record", Trial { room: 1, ..WHOLE })?;
+    bench.run("stopped by it", WHOLE)?;
     let long = vec![in rt.alloc(); 0u32; 2049]?;
-    load(&rt, &mut press, "2,049 words", long.as_slice())?;
-    run(&rt, &mut press, "still stopped", &job, 6, 2, 2)?;
-    load(&rt, &mut press, "the card again", &card)?;
-    run(&rt, &mut press, "fuel 5", &job, 5, 2, 2)?;
-    run(
-        &rt,
-        &mut press,
+    bench.load("2,049 words", long.as_slice())?;
+    bench.run("still stopped", WHOLE)?;
+    bench.load("the card again", &card)?;
+    bench.run("fuel 5", Trial { fuel: 5, ..WHOLE })?;
+    bench.run(
         "stopped by it, and a job of one word",
-        &[7],
-        6,
-        2,
-        1,
+        Trial {
+            words: 1,
+            ..with_job(&[7])
+        },
     )?;
-    load(&rt, &mut press, "the card again", &card)?;
-    run(&rt, &mut press, "no fuel", &job, 0, 2, 2)
+    bench.load("the card again", &card)?;
+    bench.run("no fuel", Trial { fuel: 0, ..WHOLE })
 }

@@ -2,28 +2,16 @@
 #![tactic(auto)]
 
 use hextext::read_words;
-use image::items::survey;
-use image::layout::first_fault;
 use std::io;
 use std::io::{BufRead, BufReader};
-use wording::{LayoutRefusal, Summary};
+use wording::LayoutVerdict;
 
 fn judge(rt: &HostRuntime, line: &str) -> io::Result<()> {
-    let title = match line.split_once('#') {
-        Some((_, title)) => title.trim(),
-        None => "",
-    };
+    let title = line.split_once('#').map_or("", |(_, title)| title.trim());
     println!(rt; "{title}")?;
     match read_words(rt.alloc(), line.as_bytes()) {
+        Ok(words) => println!(rt; "  {}", LayoutVerdict(words.as_slice())),
         Err(e) => println!(rt; "  {e}"),
-        Ok(words) => {
-            let image = words.as_slice();
-            let seen = survey(image);
-            match first_fault(image) {
-                None => println!(rt; "  {}", Summary(seen)),
-                Some(fault) => println!(rt; "  {}", LayoutRefusal { image, fault, seen }),
-            }
-        }
     }
 }
 

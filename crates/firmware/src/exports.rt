@@ -14,7 +14,16 @@ use machine::strike::Strike;
 use press_box::imprint_box::ImprintBox;
 use press_box::store::ImageStore;
 
-// ---- what the calls of every kind share
+// ---- what the calls of every kind share. C knows a function and a struct by one name alone, so each kind has its own of both.
+
+// Empties the box. Boxes of every kind keep the secrecy promise.
+fn make<K: LabelKind + Drop>(kind: K, store: &mut ImageStore)
+    ensures made { stored store.new ≡ new_box }
+    ensures promise { KeepsPromise (K.LabelKind.meaning kind) }
+{
+    let _ = ImprintBox::new(kind);
+    *store = ImageStore::new();
+}
 
 fn load<K: LabelKind>(kind: &K, store: &mut ImageStore, image: &[u32], fault: &mut Fault) -> u8
     ensures { Loads (K.LabelKind.meaning kind.now) image.now (stored store.old) fault.old result (stored store.new) fault.new }
@@ -49,8 +58,7 @@ pub extern "C" fn imprint_stage_make(press: &mut StageBox)
     ensures made { stored press.new.store ≡ new_box }
     ensures promise { KeepsPromise stages }
 {
-    let _ = ImprintBox::new(Stage);
-    press.store = ImageStore::new();
+    make(Stage, &mut press.store);
 }
 
 #[unsafe(no_mangle)]
@@ -88,8 +96,7 @@ pub extern "C" fn imprint_mastheads_make(press: &mut MastheadBox)
     ensures made { stored press.new.store ≡ new_box }
     ensures promise { KeepsPromise mastheads }
 {
-    let _ = ImprintBox::new(MastheadSet);
-    press.store = ImageStore::new();
+    make(MastheadSet, &mut press.store);
 }
 
 #[unsafe(no_mangle)]
@@ -131,8 +138,7 @@ pub extern "C" fn imprint_stage_mastheads_make(press: &mut StageMastheadBox)
     ensures made { stored press.new.store ≡ new_box }
     ensures promise { KeepsPromise (pair stages mastheads) }
 {
-    let _ = ImprintBox::new(Pair::new(Stage, MastheadSet));
-    press.store = ImageStore::new();
+    make(Pair::new(Stage, MastheadSet), &mut press.store);
 }
 
 #[unsafe(no_mangle)]

@@ -6,6 +6,8 @@ ghost use Rattle.std.specs.Prelude.{◌≡◌};
 use machine::ran::{End, Ran};
 use press_box::fault::{LoadFault, Pass, RunFault};
 
+// Numbers and no enums, since C reads them.
+
 // A refusal of a load: its number, 1 to 12; the pass that refuses, 1 layout, 2 naming, 3 flow; the place of the word.
 #[derive(Clone, Copy)]
 #[repr(C)]

@@ -1,3 +1,1 @@
-pub mod Walking
-pub mod Bodies
-pub mod Passing
+pub mod Blocks

@@ -1,2 +1,3 @@
-pub mod Faults
+pub mod Stops
 pub mod Stuck
+pub mod Walks

@@ -7,6 +7,9 @@ use Rattle.rules.specs.Flow.{state_tests}
 use Rattle.typing.specs.States.{known}
 use Rattle.flow.specs.declared.stuck.Stuck.{Stuck}
 
+abbrev pub BreaksItsRule : Meaning → Program → Stuck → Type 0
+BreaksItsRule m p x = Some x.rule ≡ broken (state_tests m p (known x.state) x.instruction)
+
 abbrev pub StuckThere : Meaning → Program → Option Stuck → Type 0
 StuckThere m p None = Unit {0}
-StuckThere m p (Some x) = Some x.rule ≡ broken (state_tests m p (known x.state) x.instruction)
+StuckThere m p (Some x) = BreaksItsRule m p x

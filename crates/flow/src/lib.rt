@@ -2,11 +2,10 @@
 // each instruction, and the first broken rule is answered.
 #![tactic(auto)]
 
-mod check;
-mod effect;
 mod fault;
 mod pass;
 mod stuck;
+mod walk;
 
 pub use fault::FlowFault;
 pub use pass::check_flow;

@@ -5,7 +5,7 @@ use Rattle.image.specs.declared.rule.LayoutRule.{LayoutRule}
 use Rattle.image.specs.declared.rule.LayoutRule.TheVariants.{TooLong, KindOutOfPlace, FieldNotZero, CutShort, TooManyItems, SizeOutOfRange, TooManyCells, NoBlock}
 use Rattle.image.specs.declared.section.Section.{Section}
 use Rattle.image.specs.declared.section.Section.TheVariants.{Channels, Shapes, Signatures, Tuples, Blocks}
-use Rattle.image.specs.declared.stand.Stand.{Stand}
+use Rattle.image.specs.Layout.{Stand}
 use Rattle.image.specs.declared.word.Word.{Word}
 use Rattle.image.specs.Words.{split}
 use Rattle.image.specs.Heads.{head_of}

@@ -1,4 +1,3 @@
-pub mod Walking
 pub mod Reading
 pub mod Splitting
 pub mod Earliest

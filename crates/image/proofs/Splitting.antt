@@ -8,7 +8,7 @@ use Rattle.image.specs.declared.section.Section.TheVariants.{Channels}
 use Rattle.image.specs.declared.counts.Counts.{Counts}
 use Rattle.image.specs.declared.rule.LayoutRule.{LayoutRule}
 use Rattle.image.specs.declared.rule.LayoutRule.TheVariants.{TooLong, CutShort, NoBlock}
-use Rattle.image.specs.declared.stand.Stand.{Stand}
+use Rattle.image.specs.Layout.{Stand}
 use Rattle.image.specs.Words.{split}
 use Rattle.image.specs.Sections.{rank}
 use Rattle.image.specs.Heads.{head_of, section_of, follows}
@@ -75,11 +75,11 @@ numbered before zero place (n ∷ ns) = go (whole_head (n ∷ ns)) (λ h. number
 
 -- ---- the whole of an image without a fault
 
-first_clear : (x y : Finding LayoutRule) → (x then y) ≡ clear → x ≡ clear
+pub first_clear : {R : Type 0} (x y : Finding R) → (x then y) ≡ clear → x ≡ clear
 first_clear clear y e = refl
 first_clear (fault r p) y e = absurd (let z : ◌≡◌ {A = ℕ} 0 1 = cc in omega arith)
 
-then_clear : (x y : Finding LayoutRule) → (x then y) ≡ clear → y ≡ clear
+pub then_clear : {R : Type 0} (x y : Finding R) → (x then y) ≡ clear → y ≡ clear
 then_clear clear y e = e
 then_clear (fault r p) y e = absurd (let z : ◌≡◌ {A = ℕ} 0 1 = cc in omega arith)
 

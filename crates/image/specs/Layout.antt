@@ -7,7 +7,6 @@ use Rattle.image.specs.declared.head.Head.{Head}
 use Rattle.image.specs.declared.head.Head.TheVariants.{Channel, Shape, Signature, Tuple, Block}
 use Rattle.image.specs.declared.rule.LayoutRule.{LayoutRule}
 use Rattle.image.specs.declared.rule.LayoutRule.TheVariants.{TooLong, KindOutOfPlace, FieldNotZero, CutShort, TooManyItems, SizeOutOfRange, TooManyCells, NoBlock}
-use Rattle.image.specs.declared.stand.Stand.{Stand}
 use Rattle.image.specs.Words.{split, same}
 use Rattle.image.specs.Sections.{rank, most}
 use Rattle.image.specs.Heads.{head_of, head_word, section_of, follows}
@@ -28,6 +27,12 @@ number_of NoBlock = 3
 
 -- Where the pass stands before a word: the section of the latest head, how many items that section has so far, how many cells all
 -- tuples have so far, and how many words of the present item are still to come.
+pub record Stand : Type 0 where
+  pub section : Section
+  pub count : ℕ
+  pub cells : ℕ
+  pub left : ℕ
+
 abbrev pub stand : Section → ℕ → ℕ → ℕ → Stand
 stand section count cells left = record { section = section; count = count; cells = cells; left = left }
 

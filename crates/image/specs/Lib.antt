@@ -12,3 +12,4 @@ pub mod Items
 pub mod Reader
 pub mod Surveys
 pub mod Splits
+pub mod Stands

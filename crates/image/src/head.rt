@@ -5,7 +5,7 @@ use crate::section::Section;
 use crate::word::Word;
 
 // The flow context that a signature promises: empty, or raised to a label until the postdominator block is reached.
-#[derive(Clone, Copy)]
+#[derive(Clone, Copy, PartialEq, Eq)]
 pub enum Context {
     Empty,
     Raised { label: u8, postdominator: u8 },
@@ -21,11 +21,11 @@ pub enum Head {
     Block { signature: u8, words: u8 },
 }
 
-impl Context {
-    // The context in a signature's head: the top bit of c says whether it is raised.
-    pub fn decode(w: Word) -> Context
-        ensures { result ≡ context_of w }
-    {
+// The context in a signature's head: the top bit of c says whether it is raised.
+impl From<Word> for Context {
+    ghost from_gives = { λ w context. context ≡ context_of w };
+
+    fn from(w: Word) -> Context {
         if w.c >= 128 {
             Context::Raised {
                 label: w.a,
@@ -38,7 +38,7 @@ impl Context {
 }
 
 impl Head {
-    // The head that a word is by its kind, or none.
+    // The head that a word is by its kind, or none. No `TryFrom`: an error could say no more than that.
     pub fn decode(w: Word) -> Option<Head>
         ensures { result ≡ head_of w }
     {
@@ -46,7 +46,7 @@ impl Head {
             1 => Some(Head::Channel { label: w.c }),
             2 => Some(Head::Shape { cells: w.c }),
             3 => Some(Head::Signature {
-                context: Context::decode(w),
+                context: Context::from(w),
                 depth: w.c % 128,
             }),
             4 => Some(Head::Tuple {
@@ -58,29 +58,6 @@ impl Head {
                 words: w.c,
             }),
             _ => None,
-        }
-    }
-
-    // How the head is written: every field that it does not name is zero. A depth takes seven bits.
-    pub fn encode(self) -> Word
-        ensures { result ≡ head_word self }
-    {
-        match self {
-            Head::Channel { label } => Word::new(1, 0, 0, label),
-            Head::Shape { cells } => Word::new(2, 0, 0, cells),
-            Head::Signature {
-                context: Context::Empty,
-                depth,
-            } => Word::new(3, 0, 0, depth % 128),
-            Head::Signature {
-                context: Context::Raised {
-                    label,
-                    postdominator,
-                },
-                depth,
-            } => Word::new(3, label, postdominator, 128 + depth % 128),
-            Head::Tuple { shape, cells } => Word::new(4, 0, cells, shape),
-            Head::Block { signature, words } => Word::new(5, 0, signature, words),
         }
     }
 
@@ -106,6 +83,31 @@ impl Head {
             Head::Signature { depth, .. } => 8 + usize::from(depth),
             Head::Tuple { cells, .. } => usize::from(cells),
             Head::Block { words, .. } => usize::from(words),
+        }
+    }
+}
+
+// How the head is written: every field that it does not name is zero. A depth takes seven bits.
+impl From<Head> for Word {
+    ghost from_gives = { λ head w. w ≡ head_word head };
+
+    fn from(head: Head) -> Word {
+        match head {
+            Head::Channel { label } => Word::new(1, 0, 0, label),
+            Head::Shape { cells } => Word::new(2, 0, 0, cells),
+            Head::Signature {
+                context: Context::Empty,
+                depth,
+            } => Word::new(3, 0, 0, depth % 128),
+            Head::Signature {
+                context: Context::Raised {
+                    label,
+                    postdominator,
+                },
+                depth,
+            } => Word::new(3, label, postdominator, 128 + depth % 128),
+            Head::Tuple { shape, cells } => Word::new(4, 0, cells, shape),
+            Head::Block { signature, words } => Word::new(5, 0, signature, words),
         }
     }
 }

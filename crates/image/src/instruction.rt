@@ -27,7 +27,8 @@ pub enum Instruction {
 }
 
 impl Instruction {
-    // The instruction that a word is by its kind: the last word of a block, and no other, is one that ends it.
+    // The instruction that a word is by its kind: the last word of a block, and no other, is one that ends it. No `TryFrom`, which takes
+    // the word alone.
     pub fn decode(last: bool, w: Word) -> Option<Instruction>
         ensures { result ≡ instruction_of last w }
     {
@@ -53,7 +54,7 @@ impl Instruction {
         ensures { result ≡ inner_of w }
     {
         let Word { kind, a, b, c } = w;
-        let value = u16::from(b) * 256 + u16::from(c);
+        let value = u16::from_be_bytes([b, c]);
         match kind {
             0x20 => Some(Instruction::SetNumber { to: a, value }),
             0x21 => Some(Instruction::SetTuple { to: a, tuple: c }),
@@ -95,18 +96,18 @@ impl Instruction {
             _ => None,
         }
     }
+}
 
-    // How the instruction is written: every field that it does not name is zero.
-    pub fn encode(self) -> Word
-        ensures { result ≡ instruction_word self }
-    {
-        match self {
-            Instruction::SetNumber { to, value } => Word::new(
-                0x20,
-                to,
-                (value / 256) as u8,
-                (value % 256) as u8,
-            ),
+// How the instruction is written: every field that it does not name is zero.
+impl From<Instruction> for Word {
+    ghost from_gives = { λ instruction w. w ≡ instruction_word instruction };
+
+    fn from(instruction: Instruction) -> Word {
+        match instruction {
+            Instruction::SetNumber { to, value } => {
+                let [high, low] = value.to_be_bytes();
+                Word::new(0x20, to, high, low)
+            }
             Instruction::SetTuple { to, tuple } => Word::new(0x21, to, 0, tuple),
             Instruction::SetBlock { to, block } => Word::new(0x22, to, 0, block),
             Instruction::Copy { to, from } => Word::new(0x23, to, from, 0),

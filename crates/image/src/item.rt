@@ -3,7 +3,8 @@ ghost use Rattle.std.specs.Prelude.{◌≡◌};
 
 use crate::section::Section;
 
-// A part of an image: its place, its number within its section, and its words, the head first.
+// A part of an image: its place, its number within its section, and its words, the head first. Anybody may make one of any words, so what
+// holds of those that `Items` hands out is said where it is used.
 #[derive(Clone, Copy)]
 pub struct Part<'a> {
     pub place: usize,

@@ -2,6 +2,7 @@
 #![tactic(auto)]
 
 pub mod counts;
+pub mod fault;
 pub mod head;
 pub mod instruction;
 pub mod item;

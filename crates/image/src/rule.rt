@@ -1,8 +1,10 @@
 ghost use Rattle.image.specs.Layout.{number_of};
 ghost use Rattle.std.specs.Prelude.{◌≡◌};
 
+use crate::fault::Fault;
+
 // The rules of the layout pass. Refusals go by number, and several rules share one.
-#[derive(Clone, Copy)]
+#[derive(Clone, Copy, PartialEq, Eq)]
 pub enum LayoutRule {
     // 1: an image has at most 2,048 words
     TooLong,
@@ -40,9 +42,4 @@ impl LayoutRule {
     }
 }
 
-// A broken rule, and the place of the word that breaks it.
-#[derive(Clone, Copy)]
-pub struct LayoutFault {
-    pub rule: LayoutRule,
-    pub place: usize,
-}
+pub type LayoutFault = Fault<LayoutRule>;

@@ -2,7 +2,7 @@ ghost use Rattle.image.specs.Sections.{rank, most};
 ghost use Rattle.std.specs.Prelude.{◌≡◌};
 
 // The five sections of an image: items stand in this order, and are numbered from 0 within their section.
-#[derive(Clone, Copy)]
+#[derive(Clone, Copy, PartialEq, Eq, PartialOrd, Ord)]
 pub enum Section {
     Channels,
     Shapes,

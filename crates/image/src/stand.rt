@@ -1,14 +1,20 @@
+ghost use Rattle.std.specs.Prelude.{◌≤◌};
+
 use crate::section::Section;
 
-// Where the layout pass stands before a word.
+mod step;
+
+// Where the layout pass stands before a word, behind words that break no rule.
 #[derive(Clone, Copy)]
 pub struct Stand {
     // the section of the latest head
-    pub section: Section,
+    section: Section,
     // how many items that section has so far
-    pub count: usize,
+    count: usize,
     // how many cells all tuples have so far
-    pub cells: usize,
+    cells: usize,
     // how many words of the present item are still to come
-    pub left: usize,
+    left: usize,
+    ghost few: { count ≤ 128 },
+    ghost small: { cells ≤ 256 },
 }

@@ -4,7 +4,7 @@ ghost use Rattle.std.specs.Prelude.{◌≡◌};
 use crate::word::Word;
 
 // What a typed word is: an integer, or the number of a tuple of a shape or of a block of a signature.
-#[derive(Clone, Copy)]
+#[derive(Clone, Copy, PartialEq, Eq)]
 pub enum Sort {
     Integer,
     Pointer { shape: u8 },
@@ -19,7 +19,7 @@ pub enum Ty {
 }
 
 impl Ty {
-    // The type that a word is by its kind, or none.
+    // The type that a word is by its kind, or none. No `TryFrom`: an error could say no more than that.
     pub fn decode(w: Word) -> Option<Ty>
         ensures { result ≡ type_of w }
     {
@@ -41,26 +41,25 @@ impl Ty {
         }
     }
 
-    // How the type is written.
-    pub fn encode(self) -> Word
-        ensures { result ≡ type_word self }
+    pub fn is_nonsense(self) -> bool
+        ensures { result ≡ is_nonsense self }
     {
-        match self {
+        matches!(self, Ty::Nonsense)
+    }
+}
+
+// How the type is written.
+impl From<Ty> for Word {
+    ghost from_gives = { λ t w. w ≡ type_word t };
+
+    fn from(t: Ty) -> Word {
+        match t {
             Ty::Nonsense => Word::new(0x10, 0, 0, 0),
             Ty::Typed { sort, label } => match sort {
                 Sort::Integer => Word::new(0x11, 0, 0, label),
                 Sort::Pointer { shape } => Word::new(0x12, shape, 0, label),
                 Sort::Code { signature } => Word::new(0x13, signature, 0, label),
             },
-        }
-    }
-
-    pub fn is_nonsense(self) -> bool
-        ensures { result ≡ is_nonsense self }
-    {
-        match self {
-            Ty::Nonsense => true,
-            Ty::Typed { .. } => false,
         }
     }
 }

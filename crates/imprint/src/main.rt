@@ -2,154 +2,80 @@
 // is in the libraries below it; here are only the arguments, the files and the printing.
 #![tactic(auto)]
 
-mod failure;
+mod judge;
+mod kind;
 mod usage;
 
-use crate::failure::Failure;
-use crate::usage::Usage;
-use explain::{FlowRefusal, NamingRefusal};
-use flow::{FlowFault, stuck_at};
-use hextext::{TextError, read_words};
-use image::items::{Items, survey};
-use image::layout::first_fault;
+use crate::judge::Judge;
+use crate::kind::{KINDS, KindName};
+use crate::usage::USAGE;
+use image::items::Items;
 use labels::{LabelKind, MastheadSet, Pair, Stage};
-use naming::fault::NamingFault;
-use press_box::fault::LoadFault;
-use press_box::imprint_box::ImprintBox;
-use programme::laid_out::LaidOut;
-use std::io::{BufRead, BufReader, Read};
+use printing::{Failure, image_of};
+use std::alloc::Global;
+use std::env;
 use std::process::ExitCode;
-use std::{env, fs, io};
-use wording::{ItemLines, LayoutRefusal, Several, Summary};
-
-// The label kinds that a box can be made for here, by their names.
-#[derive(Clone, Copy)]
-enum KindName {
-    Stage,
-    Mastheads,
-    StageMastheads,
-    MastheadsStage,
-    StageStage,
-    MastheadsMastheads,
-}
-
-const KINDS: &str =
-    "stage, mastheads, and the pairs stage*mastheads, mastheads*stage, stage*stage and mastheads*mastheads";
-
-fn kind_named(name: &str) -> Option<KindName> {
-    match name {
-        "stage" => Some(KindName::Stage),
-        "mastheads" => Some(KindName::Mastheads),
-        "stage*mastheads" => Some(KindName::StageMastheads),
-        "mastheads*stage" => Some(KindName::MastheadsStage),
-        "stage*stage" => Some(KindName::StageStage),
-        "mastheads*mastheads" => Some(KindName::MastheadsMastheads),
-        _ => None,
-    }
-}
+use wording::{ItemLines, LayoutVerdict};
 
 // A call of the program.
-#[derive(Drop)]
-enum Command {
+#[derive(Clone, Copy)]
+enum Command<'a> {
     Help,
-    Items(String),
-    Check(KindName, Vec<String>),
+    Items(&'a str),
+    Check(KindName, &'a [String]),
 }
 
-// The command that the arguments spell.
-fn asked_for(rt: &HostRuntime) -> Result<Command, Failure> {
-    let mut args = env::args(rt)?;
-    let _program = args.next();
-    let Some(name) = args.next() else {
+// The command that the arguments behind the program's name spell.
+fn asked_for<'a>(heap: Global, args: &'a [String]) -> Result<Command<'a>, Failure> {
+    let [name, operands @ ..] = args else {
         return Ok(Command::Help);
     };
-    let mut operands = Vec::new(rt.alloc());
-    for operand in args {
-        operands.push(operand)?;
-    }
-    let name = name.as_str();
-    match name {
-        "--help" | "-h" | "help" => Ok(Command::Help),
-        "items" => items_command(rt, operands),
-        "check" => check_command(rt, operands),
-        _ => Err(Failure::Said(format!(in rt.alloc();
+    match (name.as_str(), operands) {
+        ("--help" | "-h" | "help", _) => Ok(Command::Help),
+        ("items", [file]) => Ok(Command::Items(file.as_str())),
+        ("items", _) => mistaken(
+            heap,
+            "'imprint items' takes one file, or - for standard input",
+        ),
+        ("check", [kind, files @ ..]) if !files.is_empty() => {
+            Ok(Command::Check(kind_named(heap, kind.as_str())?, files))
+        }
+        ("check", _) => mistaken(
+            heap,
+            "'imprint check' takes a label kind and at least one file, or - for standard input",
+        ),
+        (name, _) => Err(Failure::Said(format!(in heap;
             "no command '{name}'; 'imprint --help' lists what there is"
         )?)),
     }
 }
 
-fn items_command(rt: &HostRuntime, mut operands: Vec<String>) -> Result<Command, Failure> {
-    match (operands.pop(), operands.is_empty()) {
-        (Some(file), true) => Ok(Command::Items(file)),
-        _ => mistaken(
-            rt,
-            "'imprint items' takes one file, or - for standard input",
-        ),
-    }
+// A call that is not as the command wants it.
+fn mistaken<'a>(heap: Global, text: &str) -> Result<Command<'a>, Failure> {
+    Err(Failure::Said(String::from_str(heap, text)?))
 }
 
-fn check_command(rt: &HostRuntime, mut operands: Vec<String>) -> Result<Command, Failure> {
-    if operands.len() < 2 {
-        return mistaken(
-            rt,
-            "'imprint check' takes a label kind and at least one file, or - for standard input",
-        );
-    }
-    let name = operands.remove(0);
-    let name = name.as_str();
-    match kind_named(name) {
-        Some(kind) => Ok(Command::Check(kind, operands)),
-        None => Err(Failure::Said(format!(in rt.alloc();
+fn kind_named(heap: Global, name: &str) -> Result<KindName, Failure> {
+    match name.parse() {
+        Ok(kind) => Ok(kind),
+        Err(_) => Err(Failure::Said(format!(in heap;
             "no label kind '{name}'; the kinds are {KINDS}"
         )?)),
-    }
-}
-
-// A call that is not as the command wants it.
-fn mistaken(rt: &HostRuntime, text: &str) -> Result<Command, Failure> {
-    Err(Failure::Said(String::from_str(rt.alloc(), text)?))
-}
-
-// The bytes of a file; `-` is standard input.
-fn bytes_of(rt: &HostRuntime, file: &str) -> io::Result<Vec<u8>> {
-    if file != "-" {
-        return fs::read(rt, file);
-    }
-    let mut bytes = Vec::new(rt.alloc());
-    rt.stdin().read_to_end(&mut bytes)?;
-    Ok(bytes)
-}
-
-// The words of the image in a file. The failure names the file, and the line and column of an error in its text.
-fn image_of(rt: &HostRuntime, file: &str) -> Result<Vec<u32>, Failure> {
-    let name = if file == "-" { "standard input" } else { file };
-    let bytes = match bytes_of(rt, file) {
-        Ok(bytes) => bytes,
-        Err(e) => return Err(Failure::Said(format!(in rt.alloc(); "{name}: {e}")?)),
-    };
-    match read_words(rt.alloc(), bytes.as_slice()) {
-        Ok(words) => Ok(words),
-        Err(e) => Err(Failure::Said(format!(in rt.alloc(); "{name}: {e}")?)),
     }
 }
 
 // `imprint items`: the items as far as they go, and then the summary or the refusal.
 fn list_items(rt: &HostRuntime, file: &str) -> Result<(), Failure> {
     let words = image_of(rt, file)?;
-    let image = words.as_slice();
-    for item in Items::of(image) {
+    for item in Items::of(words.as_slice()) {
         print!(rt; "{}", ItemLines(item))?;
     }
-    let seen = survey(image);
-    match first_fault(image) {
-        None => println!(rt; "{}", Summary(seen))?,
-        Some(fault) => println!(rt; "{}", LayoutRefusal { image, fault, seen })?,
-    }
+    println!(rt; "{}", LayoutVerdict(words.as_slice()))?;
     Ok(())
 }
 
-// `imprint check`: one verdict a file, by a box for the kind.
-fn check_files(rt: &HostRuntime, kind: KindName, files: &Vec<String>) -> Result<(), Failure> {
+// `imprint check`: one verdict a file, by a box for the kind. Each kind is a type of its own, so each name has a call of its own.
+fn check_files(rt: &HostRuntime, kind: KindName, files: &[String]) -> Result<(), Failure> {
     match kind {
         KindName::Stage => judge_all(rt, Stage, files),
         KindName::Mastheads => judge_all(rt, MastheadSet, files),
@@ -160,152 +86,23 @@ fn check_files(rt: &HostRuntime, kind: KindName, files: &Vec<String>) -> Result<
     }
 }
 
-// What is no image is reported and passed over; the call then ends with a failure.
 fn judge_all<K: LabelKind + Drop>(
     rt: &HostRuntime,
     kind: K,
-    files: &Vec<String>,
+    files: &[String],
 ) -> Result<(), Failure> {
-    let mut press = ImprintBox::new(kind);
-    let mut passed_over: usize = 0;
-    for file in files.iter() {
-        let file = file.as_str();
-        if file == "-" {
-            passed_over = passed_over.saturating_add(judge_lines(rt, &mut press)?);
-            continue;
-        }
-        match image_of(rt, file) {
-            Ok(words) => judge(rt, &mut press, file, words.as_slice())?,
-            Err(failure) => {
-                eprintln!(rt; "imprint: {failure}")?;
-                passed_over = passed_over.saturating_add(1);
-            }
-        }
-    }
-    if passed_over == 0 {
-        return Ok(());
-    }
-    let texts = Several(passed_over, "text");
-    Err(Failure::Said(format!(in rt.alloc(); "no image in {texts}")?))
-}
-
-// Standard input: an image on each line. Answers how many lines are none.
-fn judge_lines<K: LabelKind>(
-    rt: &HostRuntime,
-    press: &mut ImprintBox<K>,
-) -> Result<usize, Failure> {
-    let mut k: usize = 0;
-    let mut passed_over: usize = 0;
-    for line in BufReader::new(rt.alloc(), rt.stdin())?.lines(rt.alloc()) {
-        let line = line?;
-        k = k.saturating_add(1);
-        match read_words(rt.alloc(), line.as_bytes()) {
-            Ok(words) => {
-                let name = format!(in rt.alloc(); "line {k}")?;
-                judge(rt, press, name.as_str(), words.as_slice())?;
-            }
-            Err(e) => {
-                eprintln!(rt; "imprint: standard input: {}", on_line(k, e))?;
-                passed_over = passed_over.saturating_add(1);
-            }
-        }
-    }
-    Ok(passed_over)
-}
-
-// An error of a line of its own, as one of the k-th line.
-fn on_line(k: usize, e: TextError) -> TextError {
-    match e {
-        TextError::BadCharacter { column, byte, .. } => TextError::BadCharacter {
-            line: k,
-            column,
-            byte,
-        },
-        TextError::WordTooLong { column, .. } => TextError::WordTooLong { line: k, column },
-        TextError::Memory => TextError::Memory,
-    }
-}
-
-// One image: what the box answers.
-fn judge<K: LabelKind>(
-    rt: &HostRuntime,
-    press: &mut ImprintBox<K>,
-    name: &str,
-    image: &[u32],
-) -> Result<(), Failure> {
-    match press.load(image) {
-        Ok(()) => {
-            let size = image.len();
-            println!(rt; "{name}: accepted, {size} words")?;
-        }
-        Err(LoadFault::Layout(fault)) => {
-            let seen = survey(image);
-            println!(rt; "{name}: {}", LayoutRefusal { image, fault, seen })?;
-        }
-        Err(LoadFault::Naming(fault)) => refuse_names(
-            rt,
-            press.kind().count(),
-            name,
-            image,
-            fault,
-        )?,
-        Err(LoadFault::Flow(fault)) => refuse_flow(rt, press.kind(), name, image, fault)?,
-    }
-    Ok(())
-}
-
-// A refusal by the naming pass, at a kind of so many labels.
-fn refuse_names(
-    rt: &HostRuntime,
-    labels: u16,
-    name: &str,
-    words: &[u32],
-    fault: NamingFault,
-) -> io::Result<()> {
-    match LaidOut::check(words) {
-        Ok(image) => println!(rt;
-            "{name}: {}",
-            NamingRefusal {
-                image,
-                fault,
-                labels
-            }
-        ),
-        Err(_) => println!(rt; "{name}: refused, naming"),
-    }
-}
-
-// A refusal by the flow pass.
-fn refuse_flow<K: LabelKind>(
-    rt: &HostRuntime,
-    kind: &K,
-    name: &str,
-    words: &[u32],
-    fault: FlowFault,
-) -> io::Result<()> {
-    let Ok(image) = LaidOut::check(words) else {
-        return println!(rt; "{name}: refused, flow");
-    };
-    let Some(stuck) = stuck_at(kind, image, fault.place) else {
-        return println!(rt; "{name}: refused, flow");
-    };
-    let refusal = FlowRefusal {
-        kind,
-        image,
-        fault,
-        stuck: &stuck,
-    };
-    println!(rt; "{name}: {refusal}")
+    Judge::new(rt, kind).all(files)
 }
 
 fn run(rt: &HostRuntime) -> Result<(), Failure> {
-    match asked_for(rt)? {
+    let args: Vec<String> = env::args(rt)?.skip(1).collect(rt.alloc())?;
+    match asked_for(rt.alloc(), args.as_slice())? {
         Command::Help => {
-            print!(rt; "{}", Usage)?;
+            print!(rt; "{USAGE}")?;
             Ok(())
         }
-        Command::Items(file) => list_items(rt, file.as_str()),
-        Command::Check(kind, files) => check_files(rt, kind, &files),
+        Command::Items(file) => list_items(rt, file),
+        Command::Check(kind, files) => check_files(rt, kind, files),
     }
 }
 

@@ -1,14 +1,5 @@
 // What `imprint --help` prints.
-use std::fmt;
-
-#[derive(Clone, Copy)]
-pub struct Usage;
-
-impl fmt::Display for Usage {
-    fn fmt<W: fmt::Write>(&self, f: &mut fmt::Formatter<W>) -> fmt::Result {
-        write!(
-            f,
-            "imprint: programme images for the imprint box
+pub const USAGE: &str = "imprint: programme images for the imprint box
 
 usage:
   imprint items FILE           list the items of the image in FILE
@@ -35,7 +26,4 @@ with what is wrong at that word. docs/refusals.md lists the numbers, docs/rules.
 
 Status: 0 if every text is an image, refused or not; 1 if one is none, with the reason on
 standard error.
-"
-        )
-    }
-}
+";

@@ -27,7 +27,7 @@ impl<A: LabelKind, B: LabelKind> Pair<A, B> {
         ensures { result ≡ both_below (pair (A.LabelKind.meaning self.now.first) (B.LabelKind.meaning self.now.second)).count a b }
     {
         let n = self.count();
-        (a as u16) < n && (b as u16) < n
+        u16::from(a) < n && u16::from(b) < n
     }
 
     // The codes of the two parts.
@@ -36,7 +36,7 @@ impl<A: LabelKind, B: LabelKind> Pair<A, B> {
         ensures second { result.1 ≡ code % (B.LabelKind.meaning self.now.second).count }
     {
         let n = self.second.count();
-        let code = code as u16;
+        let code = u16::from(code);
         ((code / n) as u8, (code % n) as u8)
     }
 }
@@ -49,7 +49,7 @@ impl<A: LabelKind, B: LabelKind> LabelKind for Pair<A, B> {
         (A.LabelKind.lawful k.first) (B.LabelKind.lawful k.second) };
 
     fn count(&self) -> u16 {
-        let product = self.first.count() as u32 * self.second.count() as u32;
+        let product = u32::from(self.first.count()) * u32::from(self.second.count());
         if product <= 256 { product as u16 } else { 1 }
     }
 
@@ -72,6 +72,6 @@ impl<A: LabelKind, B: LabelKind> LabelKind for Pair<A, B> {
         let first = self.first.join(a_first, b_first);
         let second = self.second.join(a_second, b_second);
         let n = self.second.count();
-        (first as u16 * n + second as u16) as u8
+        (u16::from(first) * n + u16::from(second)) as u8
     }
 }

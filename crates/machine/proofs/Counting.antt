@@ -1,6 +1,8 @@
 -- How many cells there are, and how many of them a job fills.
-use Rattle.std.proofs.Common.{◌≡◌, ℕ, zero, suc, ◌+◌, ◌<◌, ◌≤◌, Bool, cond, List, [], ◌∷◌, ◌++◌, length, get_or, drop, sym, refl, ap, ◌∙◌, add-zero, arith, length-append, length-drop}
+use Rattle.std.proofs.Common.{sum_by, count_by, take, ◌≡◌, ℕ, zero, suc, ◌+◌, ◌<◌, ◌≤◌, Bool, cond, List, [], ◌∷◌, ◌++◌, length, get_or, drop, sym, refl, ap, ◌∙◌, add-zero, arith, length-append, length-drop}
 use Rattle.std.proofs.lemmas.List.{drop_more}
+use Rattle.std.proofs.lemmas.List.Sums.{sum_by-cons, sum_by-append, count_by-le-length}
+use Rattle.std.proofs.lemmas.List.Recursion.{is_count_by}
 use Rattle.image.specs.declared.section.Section.{Section}
 use Rattle.image.specs.declared.section.Section.TheVariants.{Channels, Shapes, Signatures, Tuples, Blocks}
 use Rattle.image.specs.declared.survey.Survey.{Survey}
@@ -11,7 +13,7 @@ use Rattle.image.specs.Words.{split}
 use Rattle.image.specs.Items.{Piece, pieces}
 use Rattle.image.specs.Surveys.{nothing_seen, with_item, surveyed}
 use Rattle.labels.specs.Meaning.{Meaning}
-use Rattle.rules.specs.Program.{Tuple, Program, no_tuple, shape_at, tuple_at, base_in, cell_types_of, cell_types}
+use Rattle.rules.specs.Program.{Tuple, Program, shape_at, base_in, cell_types_of, cell_types}
 use Rattle.rules.specs.Says.{part_in, with_part, program, program_of}
 use Rattle.rules.specs.Fit.{is_integer}
 use Rattle.rules.specs.LaidOut.{Every, all_cells}
@@ -44,45 +46,48 @@ few_cells ns s = let named = cells_named _ (program_of ns) (program_of ns).tuple
 
 -- ---- the cells that a job fills
 
-filled_first : (t : Ty) (ts : List Ty) → length (filled_labels (t ∷ ts)) ≡ cond (is_integer t) (length (filled_labels ts) + 1) (length (filled_labels ts))
-filled_first Nonsense ts = refl
-filled_first (Typed Integer label) ts = omega arith
-filled_first (Typed (Pointer shape) label) ts = refl
-filled_first (Typed (Code signature) label) ts = refl
+-- one for each integer among the types
+pub filled_counted : (ts : List Ty) → length (filled_labels ts) ≡ count_by is_integer ts
+filled_counted ts = is_count_by (λ ts. length (filled_labels ts)) is_integer refl first ts
+  where
+    first : (t : Ty) (ts : List Ty) → length (filled_labels (t ∷ ts)) ≡ cond (is_integer t) (1 + length (filled_labels ts)) (length (filled_labels ts))
+    first Nonsense ts = refl
+    first (Typed Integer label) ts = omega arith
+    first (Typed (Pointer shape) label) ts = refl
+    first (Typed (Code signature) label) ts = refl
+
+pub filled_append : (ts us : List Ty) → length (filled_labels (ts ++ us)) ≡ length (filled_labels ts) + length (filled_labels us)
+filled_append ts us = simp (filled_counted, sum_by-append)
+
+-- the cells that a job fills, tuple by tuple
+pub job_counted : (p : Program) → sum_by (λ t. count_by is_integer (shape_at p t.shape)) p.tuples ≡ length (job_labels p)
+job_counted p = go p.tuples
+  where
+    go : (ts : List Tuple) → sum_by (λ t. count_by is_integer (shape_at p t.shape)) ts ≡ length (filled_labels (cell_types_of p ts))
+    go [] = refl
+    go (t ∷ ts) =
+        sum_by-cons (λ t. count_by is_integer (shape_at p t.shape)) t ts
+        ∙ ap (λ n. count_by is_integer (shape_at p t.shape) + n) (go ts)
+        ∙ ap (λ n. n + length (filled_labels (cell_types_of p ts))) (sym (filled_counted (shape_at p t.shape)))
+        ∙ sym (filled_append (shape_at p t.shape) (cell_types_of p ts))
 
 -- from one cell on
 pub filled_at : (ts : List Ty) (n : ℕ) → n < length ts → (b : Bool) → is_integer (get_or ts n Nonsense) ≡ b → length (filled_labels (drop n ts)) ≡ cond b (length (filled_labels (drop (n + 1) ts)) + 1) (length (filled_labels (drop (n + 1) ts)))
 filled_at ts n h b e =
     ap (λ us. length (filled_labels us)) (drop_more ts n Nonsense h)
-    ∙ filled_first (get_or ts n Nonsense) (drop (n + 1) ts)
+    ∙ grind (arith, filled_counted, sum_by-cons)
     ∙ ap (λ c. cond c (length (filled_labels (drop (n + 1) ts)) + 1) (length (filled_labels (drop (n + 1) ts)))) e
 
-pub filled_append : (ts us : List Ty) → length (filled_labels (ts ++ us)) ≡ length (filled_labels ts) + length (filled_labels us)
-filled_append [] us = omega arith
-filled_append (Nonsense ∷ ts) us = filled_append ts us
-filled_append (Typed Integer label ∷ ts) us = let more = filled_append ts us in omega arith
-filled_append (Typed (Pointer shape) label ∷ ts) us = filled_append ts us
-filled_append (Typed (Code signature) label ∷ ts) us = filled_append ts us
-
-filled_few : (ts : List Ty) → length (filled_labels ts) ≤ length ts
-filled_few [] = omega arith
-filled_few (Nonsense ∷ ts) = let more = filled_few ts in omega arith
-filled_few (Typed Integer label ∷ ts) = let more = filled_few ts in omega arith
-filled_few (Typed (Pointer shape) label ∷ ts) = let more = filled_few ts in omega arith
-filled_few (Typed (Code signature) label ∷ ts) = let more = filled_few ts in omega arith
-
 pub few_filled : (ns : List ℕ) → Sound ns → length (job_labels (program_of ns)) ≤ 256
-few_filled ns s = let few = filled_few (cell_types (program_of ns)) in let all = few_cells ns s in omega arith
-
--- the types of the cells from one tuple on
-module _ (p : Program) (n : ℕ) (h : n < length p.tuples) where
-  pub types_more : cell_types_of p (drop n p.tuples) ≡ shape_at p (tuple_at p n).shape ++ cell_types_of p (drop (n + 1) p.tuples)
-  types_more = ap (cell_types_of p) (drop_more p.tuples n no_tuple h)
-
-  pub filled_more : length (filled_labels (cell_types_of p (drop n p.tuples))) ≡ length (filled_labels (shape_at p (tuple_at p n).shape)) + length (filled_labels (cell_types_of p (drop (n + 1) p.tuples)))
-  filled_more = ap (λ ts. length (filled_labels ts)) types_more ∙ filled_append (shape_at p (tuple_at p n).shape) (cell_types_of p (drop (n + 1) p.tuples))
+few_filled ns s = omega (arith, filled_counted (cell_types (program_of ns)), count_by-le-length is_integer (cell_types (program_of ns)), few_cells ns s)
 
 -- ---- where a tuple's cells begin
+
+pub base_counted : (ts : List Tuple) (n : ℕ) → sum_by (λ t. length t.words) (take n ts) ≡ base_in ts n
+base_counted [] zero = refl
+base_counted [] (suc n) = refl
+base_counted (t ∷ ts) zero = refl
+base_counted (t ∷ ts) (suc n) = sum_by-cons (λ t. length t.words) t (take n ts) ∙ ap (λ k. length t.words + k) (base_counted ts n)
 
 pub base_few : (ts : List Tuple) (n : ℕ) → base_in ts n ≤ all_cells ts
 base_few [] n = omega arith

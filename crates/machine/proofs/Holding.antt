@@ -32,12 +32,12 @@ module _ (p : Program) where
 
 -- ---- how place r stands to a write at place a of a list of n
 
-data Spot (n a r : ℕ) : Type 0 where
+pub data Spot (n a r : ℕ) : Type 0 where
   here : r ≡ a → a < n → Spot n a r
   past : n ≤ a → Spot n a r
   other : r ≢ a → Spot n a r
 
-spot : (n a r : ℕ) → Spot n a r
+pub spot : (n a r : ℕ) → Spot n a r
 spot n a r = by_index (ℕ_discrete r a)
   where
     by_length : r ≡ a → Dec (a < n) → Spot n a r

@@ -1,10 +1,10 @@
 pub mod Sound
 pub mod Every
 pub mod Counting
-pub mod Looked
+pub mod Handing
 pub mod Laying
 pub mod Fitted
-pub mod Bases
+pub mod Headed
 pub mod Holding
 pub mod Keeping
 pub mod Passing

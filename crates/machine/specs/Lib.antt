@@ -2,7 +2,9 @@ pub mod Machine
 pub mod Cells
 pub mod Box
 pub mod Runnables
+pub mod Tuples
 pub mod Typed
 pub mod Raises
 pub mod Memories
 pub mod Turns
+pub mod Endings

@@ -1,13 +1,13 @@
-ghost use Rattle.std.specs.Prelude.{◌≡◌, ◌≤◌, map, length};
+ghost use Rattle.std.specs.Prelude.{◌≡◌, ◌≤◌, length};
 ghost use Rattle.machine.specs.Box.{written};
-ghost use Rattle.machine.specs.Cells.{filled_labels, job_labels, laid, cells_for};
+ghost use Rattle.machine.specs.Cells.{job_labels, cells_for};
 ghost use Rattle.machine.specs.Runnables.{programme_of};
 ghost use Rattle.machine.specs.Typed.{CellsHold};
 ghost use Rattle.rules.specs.Program.{cell_types};
-ghost use Rattle.rules.specs.Says.{type_in};
 
 use crate::runnable::Runnable;
-use crate::types::is_integer;
+use programme::decode::type_in;
+use rules::types::is_integer;
 
 // Lays the cells that a run begins with on the front of the sheet: the job's words fill the integer cells in their order, and the
 // others come from the image. The rest of the sheet is left as it was.
@@ -17,33 +17,14 @@ pub fn lay_cells(image: Runnable<'_>, job: &[u32], sheet: &mut [u32])
     ensures sheet { sheet.new ≡ written (cells_for (programme_of image.entry) job.now) sheet.old }
     ensures hold { CellsHold (programme_of image.entry) (cells_for (programme_of image.entry) job.now) }
 {
-    let mut cell = 0;
-    let mut taken = 0;
-    for n in 0..image.tuple_count() {
-        let tuple = image.tuple(n);
-        let types = image.shape(tuple.shape).types;
-        let end = cell + tuple.words.len();
-        taken += lay_tuple(types, tuple.words, &job[taken..], &mut sheet[cell..end]);
-        cell = end;
-    }
-}
-
-// Lays the cells of one tuple, and says how many words of the job they take.
-fn lay_tuple(types: &[u32], plain: &[u32], job: &[u32], cells: &mut [u32]) -> usize
-    requires plain { length plain.now ≡ length types.now }
-    requires cells { length cells.old ≡ length types.now }
-    requires job { length (filled_labels (map type_in types.now)) ≤ length job.now }
-    ensures taken { result ≡ length (filled_labels (map type_in types.now)) }
-    ensures cells { cells.new ≡ laid (map type_in types.now) plain.now job.now }
-{
-    let mut taken = 0;
-    for (n, word) in types.iter().enumerate() {
-        if is_integer(*word) {
-            cells[n] = job[taken];
-            taken += 1;
+    let mut words = job.iter();
+    let cells = image.tuples().flat_map(|tuple| image.cells_of(tuple));
+    // By the cell's place: of what a `zip` with `iter_mut` lends a proof does not know what was written there.
+    for (place, (ty, plain)) in cells.enumerate() {
+        sheet[place] = if is_integer(type_in(*ty)) {
+            *words.next().unwrap()
         } else {
-            cells[n] = plain[n];
-        }
+            *plain
+        };
     }
-    taken
 }

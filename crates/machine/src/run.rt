@@ -40,6 +40,7 @@ pub fn run(image: Runnable<'_>, fuel: u32, strip: &mut [Strike], cells: &mut [u3
                         strikes,
                     };
                 }
+                // By its number: of a place that `get_mut` or `iter_mut` lends a proof does not know what was written there.
                 strip[strikes] = strike;
                 strikes += 1;
                 rest = words;

@@ -7,6 +7,7 @@ use programme::laid_out::LaidOut;
 mod cells;
 mod make;
 mod parts;
+mod tuples;
 
 // An image that may be run: it meets every rule that asks no label kind. Those rules are what the machine rests on, so that it looks
 // up registers, slots, cells, tuples and blocks without a test.

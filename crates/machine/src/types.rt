@@ -1,35 +1,17 @@
-ghost use Rattle.std.specs.Prelude.{◌≡◌, ◌≤◌, map, length};
-ghost use Rattle.machine.specs.Cells.{filled_labels};
+ghost use Rattle.std.specs.Prelude.{◌≡◌, count_by, map};
 ghost use Rattle.rules.specs.Fit.{is_integer};
 ghost use Rattle.rules.specs.Says.{type_in};
 
-use image::ty::{Sort, Ty};
-use image::word::Word;
+use programme::decode::type_in;
+use rules::types::is_integer;
 
 // How many of the type words are an integer's.
 pub(crate) fn integer_types(types: &[u32]) -> usize
-    ensures value { result ≡ length (filled_labels (map type_in types.now)) }
-    ensures few { result ≤ length types.now }
+    ensures { result ≡ count_by is_integer (map type_in types.now) }
 {
-    let mut count = 0;
-    for word in types {
-        if is_integer(*word) {
-            count += 1;
-        }
-    }
-    count
-}
-
-pub(crate) fn is_integer(word: u32) -> bool
-    ensures { result ≡ is_integer (type_in word) }
-{
-    match Ty::decode(Word::of(word)) {
-        Some(
-            Ty::Typed {
-                sort: Sort::Integer,
-                ..
-            },
-        ) => true,
-        _ => false,
-    }
+    types
+        .iter()
+        .map(|word| type_in(*word))
+        .filter(|ty| is_integer(*ty))
+        .count()
 }

@@ -1,5 +1,2 @@
-pub mod Lookups
-pub mod Walks
-pub mod Loops
-pub mod Addresses
-pub mod Heads
+pub mod Chains
+pub mod Findings

@@ -1,79 +1,48 @@
-ghost use Rattle.std.specs.Prelude.{◌≡◌, ◌+◌, ◌^◌, ◌<◌, map, length};
-ghost use Rattle.labels.specs.Meaning.{Meaning};
-ghost use Rattle.naming.specs.Named.{noted};
+ghost use Rattle.image.specs.Faults.{answered};
 ghost use Rattle.programme.specs.Spelled.{program_in};
 ghost use Rattle.rules.specs.Naming.{types_named, plains_named, instructions_named};
 ghost use Rattle.rules.specs.Says.{type_in, body_of};
+ghost use Rattle.std.specs.Prelude.{◌≡◌, ◌+◌, map, length, suc};
 
 use crate::fault::NamingFault;
-use crate::word::{instruction_fault, plain_fault, type_fault};
+use crate::headed::Headed;
+use crate::names::Names;
+use image::fault::Fault;
 use labels::LabelKind;
 use programme::decode::{instruction_in, type_in};
-use programme::laid_out::LaidOut;
 
-// The words behind a head, of which the first stands at the place.
-
-// The type words of a shape or a signature.
-pub fn types_fault<K: LabelKind>(
-    kind: &K,
-    image: &LaidOut<'_>,
-    place: usize,
-    types: &[u32],
-) -> Option<NamingFault>
-    requires { place + length types.now < 2 ^ 64 }
-    ensures { noted result ≡ types_named (K.LabelKind.meaning kind.now) (program_in image.now) place (map type_in types.now) }
-{
-    for (i, raw) in types.iter().enumerate() {
-        if let Some(rule) = type_fault(kind, image, type_in(*raw)) {
-            return Some(NamingFault {
-                rule,
-                place: place + i,
-            });
-        }
+// The words behind a head: the first fault among them.
+impl<K: LabelKind> Names<'_, K> {
+    // The type words of a shape or a signature.
+    pub fn types_fault(&self, part: Headed<'_>) -> Result<(), NamingFault>
+        ensures { answered result ≡ types_named (K.LabelKind.meaning self.now.kind.now) (program_in self.now.image) (suc part.entry.place) (map type_in part.entry.behind.now) }
+    {
+        part.behind.iter().enumerate().try_for_each(|(i, raw)| {
+            Fault::at(part.place + 1 + i, self.type_fault(type_in(*raw)))
+        })
     }
-    None
-}
 
-// The plain words of a tuple, by the type words of its shape.
-pub fn plains_fault(
-    image: &LaidOut<'_>,
-    types: &[u32],
-    place: usize,
-    words: &[u32],
-) -> Option<NamingFault>
-    requires place { place + length words.now < 2 ^ 64 }
-    requires cells { length words.now ≡ length types.now }
-    ensures { (m : Meaning) → noted result ≡ plains_named m (program_in image.now) (map type_in types.now) place words.now }
-{
-    for (i, raw) in words.iter().enumerate() {
-        if let Some(rule) = plain_fault(image, type_in(types[i]), *raw) {
-            return Some(NamingFault {
-                rule,
-                place: place + i,
-            });
-        }
+    // The plain words of a tuple, by the type words of its shape.
+    pub fn plains_fault(&self, part: Headed<'_>, types: &[u32]) -> Result<(), NamingFault>
+        requires { length part.behind.now ≡ length types.now }
+        ensures { answered result ≡ plains_named (K.LabelKind.meaning self.now.kind.now) (program_in self.now.image) (map type_in types.now) (suc part.entry.place) part.entry.behind.now }
+    {
+        let cells = types.iter().zip(part.behind);
+        cells.enumerate().try_for_each(|(i, (ty, raw))| {
+            Fault::at(part.place + 1 + i, self.plain_fault(type_in(*ty), *raw))
+        })
     }
-    None
-}
 
-// The instruction words of a block.
-pub fn instructions_fault<K: LabelKind>(
-    kind: &K,
-    image: &LaidOut<'_>,
-    place: usize,
-    words: &[u32],
-) -> Option<NamingFault>
-    requires { place + length words.now < 2 ^ 64 }
-    ensures { noted result ≡ instructions_named (K.LabelKind.meaning kind.now) (program_in image.now) place (body_of words.now) }
-{
-    for (i, raw) in words.iter().enumerate() {
-        let last = i + 1 == words.len();
-        if let Some(rule) = instruction_fault(kind, image, instruction_in(last, *raw)) {
-            return Some(NamingFault {
-                rule,
-                place: place + i,
-            });
-        }
+    // The instruction words of a block.
+    pub fn instructions_fault(&self, part: Headed<'_>) -> Result<(), NamingFault>
+        ensures { answered result ≡ instructions_named (K.LabelKind.meaning self.now.kind.now) (program_in self.now.image) (suc part.entry.place) (body_of part.entry.behind.now) }
+    {
+        part.behind.iter().enumerate().try_for_each(|(i, raw)| {
+            let last = i + 1 == part.behind.len();
+            Fault::at(
+                part.place + 1 + i,
+                self.instruction_fault(instruction_in(last, *raw)),
+            )
+        })
     }
-    None
 }

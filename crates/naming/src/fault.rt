@@ -1,8 +1,5 @@
+use image::fault::Fault;
 use rules::rule::NamingRule;
 
-// A broken rule, and the place of the word that breaks it.
-#[derive(Clone, Copy)]
-pub struct NamingFault {
-    pub rule: NamingRule,
-    pub place: usize,
-}
+// A broken rule of the naming pass, and the place of the word that breaks it.
+pub type NamingFault = Fault<NamingRule>;

@@ -4,6 +4,7 @@
 mod behind;
 mod check;
 pub mod fault;
+mod headed;
 mod item;
 mod names;
 mod start;

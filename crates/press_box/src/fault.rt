@@ -8,7 +8,7 @@ use image::rule::LayoutFault;
 use naming::fault::NamingFault;
 
 // The passes of a load, in their order.
-#[derive(Clone, Copy)]
+#[derive(Clone, Copy, PartialEq, Eq, Debug)]
 pub enum Pass {
     Layout,
     Naming,
@@ -83,7 +83,7 @@ impl LoadFault {
 
 // Why a run is refused, in the order in which it is tested: the box holds no image; a run has stopped it; the job has not a word for each
 // integer cell; the sheet has not a word for each cell.
-#[derive(Clone, Copy)]
+#[derive(Clone, Copy, PartialEq, Eq, Debug)]
 pub enum RunFault {
     Empty,
     Stopped,

@@ -52,7 +52,7 @@ impl<K: LabelKind> ImprintBox<K> {
     }
 
     // Runs the image on a job, with this much fuel: the strikes go to the front of the strip, the cells to the front of the sheet. A
-    // refused run changes nothing.
+    // refused run changes nothing. Job, fuel, strip and sheet go one by one, as a press hands them in.
     pub fn run(
         &mut self,
         job: &[u32],
@@ -102,7 +102,8 @@ impl<K: LabelKind> ImprintBox<K> {
     }
 }
 
-// ---- boxes for the kinds that there are: the promise at each is an instance of the one that `new` makes
+// ---- boxes for the kinds that there are: the promise at each is an instance of the one that `new` makes, and a function of its own
+// names it, for a reader who looks for his kind
 
 pub fn stage_box() -> ImprintBox<Stage>
     ensures model { model result ≡ new_box }

@@ -5,7 +5,8 @@ mod keep;
 mod load;
 mod run;
 
-// The device's memory for an image. It holds none, or one that meets each rule that asks no label kind, so that whoever reads it need not check again.
+// The device's memory for an image. It holds none, or one that meets each rule that asks no label kind, so that whoever reads it need not
+// check again. It is fixed, with the length beside it: the device has no heap, and C hands the memory over.
 #[derive(Drop)]
 #[repr(C)]
 pub struct ImageStore {

@@ -1,46 +1,66 @@
-// `imprint compare`: two editions of one puzzle, each on a box of its own, and what a reader sees on each side.
+// Runs two editions of one puzzle, each on a box of its own, and prints what a reader sees on each side.
+use crate::calls::{load, run};
 use crate::failure::Failure;
 use crate::files::{image_of, text_of};
-use crate::lines::{Line, lines_of, name_text};
-use crate::print::{load, refusal_of};
-use crate::record::{EndText, StrikesText};
-use edition::{Entry, Job, read_line};
+use crate::lines::{Call, JobCall, Line, lines_of};
+use crate::record::StrikesText;
 use labels::LabelKind;
 use machine::ran::End;
 use machine::strike::Strike;
 use press_box::imprint_box::ImprintBox;
 use programme::laid_out::LaidOut;
 use readers::agreement::{Agreement, compare};
-use readers::clash::{first_cell_clash, first_job_clash};
-use readers::sight::seen;
+use readers::sight::Reader;
 use std::alloc::{AllocError, Global};
-use std::io;
+use std::{fmt, io};
 use wording::Several;
 
-// One side: its box, the words of its present job, and what the reader has seen since the latest accepted load.
+// One side: its box, and what the reader has seen since the latest accepted load.
 #[derive(Drop)]
 struct Side<K> {
     name: &'static str,
     press: ImprintBox<K>,
-    words: Vec<u32>,
     seen: Vec<Strike>,
 }
 
-// What came of a run on one side: what the reader saw of it, the sheet, and whether it halted.
+// What a run that halted left: the strikes that the reader saw of it, and the sheet.
 #[derive(Drop)]
-struct Outcome {
+struct Halted {
     seen: Vec<Strike>,
     sheet: Vec<u32>,
-    halted: bool,
 }
 
 // How often the two editions differ in what the reader may see, or in a length, so that the promise does not speak of them; and how often
 // the reader could tell the two sides apart.
-#[derive(Clone, Copy)]
+#[derive(Clone, Copy, Default)]
 struct Findings {
     jobs: usize,
     warnings: usize,
     apart: usize,
+}
+
+impl Findings {
+    // A reason why the promise does not speak of the present jobs.
+    fn warn<T: fmt::Display + Drop>(&mut self, rt: &HostRuntime, text: T) -> io::Result<()> {
+        self.warnings = self.warnings.saturating_add(1);
+        println!(rt; "  warning: {text}")
+    }
+
+    // A way to tell the two sides apart.
+    fn note_apart<T: fmt::Display + Drop>(&mut self, rt: &HostRuntime, text: T) -> io::Result<()> {
+        self.apart = self.apart.saturating_add(1);
+        println!(rt; "  APART: {text}")
+    }
+}
+
+// The two printings under way, for one reader.
+#[derive(Drop)]
+struct Comparison<'a, K> {
+    rt: &'a HostRuntime,
+    reader: u8,
+    one: Side<K>,
+    two: Side<K>,
+    findings: Findings,
 }
 
 // Runs two editions of one image side by side, and says what the reader sees on each side and whether one is a beginning of the other.
@@ -57,25 +77,16 @@ pub fn compare_editions<K: LabelKind + Copy>(
     let second_text = text_of(rt, second)?;
     let first_lines = lines_of(rt.alloc(), first, first_text.as_str())?;
     let second_lines = lines_of(rt.alloc(), second, second_text.as_str())?;
-    let mut one = side_of(rt.alloc(), "first", kind);
-    let mut two = side_of(rt.alloc(), "second", kind);
-    load_both(rt, &mut one, &mut two, image, words.as_slice())?;
-    let mut findings = Findings {
-        jobs: 0,
-        warnings: 0,
-        apart: 0,
+    let mut comparison = Comparison {
+        rt,
+        reader,
+        one: Side::new(rt.alloc(), "first", kind),
+        two: Side::new(rt.alloc(), "second", kind),
+        findings: Findings::default(),
     };
+    comparison.load(image, words.as_slice())?;
     for (x, y) in first_lines.iter().zip(second_lines.iter()) {
-        go_on(
-            rt,
-            &mut one,
-            &mut two,
-            reader,
-            *x,
-            *y,
-            words.as_slice(),
-            &mut findings,
-        )?;
+        comparison.go_on(x, y, words.as_slice())?;
     }
     if first_lines.len() != second_lines.len() {
         let n = Several(first_lines.len(), "line");
@@ -84,266 +95,215 @@ pub fn compare_editions<K: LabelKind + Copy>(
             "{first} has {n} and {second} has {m}; two printings go through the same calls, and the rest is left out"
         )?));
     }
-    conclude(rt, reader, findings)?;
+    comparison.conclude()?;
     Ok(())
 }
 
-fn side_of<K: LabelKind>(heap: Global, name: &'static str, kind: K) -> Side<K> {
-    Side {
-        name,
-        press: ImprintBox::new(kind),
-        words: Vec::new(heap),
-        seen: Vec::new(heap),
-    }
-}
-
-// One call on both sides.
-fn go_on<K: LabelKind>(
-    rt: &HostRuntime,
-    one: &mut Side<K>,
-    two: &mut Side<K>,
-    reader: u8,
-    x: Line<'_>,
-    y: Line<'_>,
-    image: &[u32],
-    findings: &mut Findings,
-) -> Result<(), Failure> {
-    let first = read_line(x.text.as_bytes(), &mut one.words);
-    let second = read_line(y.text.as_bytes(), &mut two.words);
-    match (first, second) {
-        (Ok(Entry::Job(a)), Ok(Entry::Job(b))) => run_both(rt, one, two, reader, a, b, findings),
-        (Ok(Entry::Load), Ok(Entry::Load)) => {
-            load_both(rt, one, two, "load", image)?;
-            Ok(())
-        }
-        _ => {
-            let n = x.number;
-            let m = y.number;
-            Err(Failure::Said(format!(in rt.alloc();
-                "line {n} of the first edition is a job and line {m} of the second a load, or the other way round; two printings go through the same calls"
-            )?))
+impl<K: LabelKind> Side<K> {
+    fn new(heap: Global, name: &'static str, kind: K) -> Side<K> {
+        Side {
+            name,
+            press: ImprintBox::new(kind),
+            seen: Vec::new(heap),
         }
     }
-}
 
-// An accepted load begins anew what the reader has seen.
-fn load_both<K: LabelKind>(
-    rt: &HostRuntime,
-    one: &mut Side<K>,
-    two: &mut Side<K>,
-    name: &str,
-    image: &[u32],
-) -> io::Result<()> {
-    load(rt, &mut one.press, name, image)?;
-    if two.press.load(image).is_ok() {
-        one.seen.clear();
-        two.seen.clear();
-    }
-    Ok(())
-}
-
-fn run_both<K: LabelKind>(
-    rt: &HostRuntime,
-    one: &mut Side<K>,
-    two: &mut Side<K>,
-    reader: u8,
-    a: Job<'_>,
-    b: Job<'_>,
-    findings: &mut Findings,
-) -> Result<(), Failure> {
-    let name = name_text(a.name);
-    let other = name_text(b.name);
-    println!(rt; "jobs {name} and {other}")?;
-    findings.jobs = findings.jobs.saturating_add(1);
-    let warnings = warn(rt, one, two, reader, a.sheet, b.sheet)?;
-    findings.warnings = findings.warnings.saturating_add(warnings);
-    let x = run_side(rt, one, reader, a)?;
-    let y = run_side(rt, two, reader, b)?;
-    let apart = tell_apart(rt, one, two, reader, &x, &y)?;
-    findings.apart = findings.apart.saturating_add(apart);
-    Ok(())
-}
-
-// Says where the two jobs differ in what the reader may see, or in a length; answers how often.
-fn warn<K: LabelKind>(
-    rt: &HostRuntime,
-    one: &Side<K>,
-    two: &Side<K>,
-    reader: u8,
-    sheet: usize,
-    other_sheet: usize,
-) -> Result<usize, Failure> {
-    let mut warnings: usize = 0;
-    let n = one.words.len();
-    let m = two.words.len();
-    if n != m {
-        warnings = warnings.saturating_add(1);
-        println!(rt; "  warning: the jobs have {n} and {m} words")?;
-    }
-    if sheet != other_sheet {
-        warnings = warnings.saturating_add(1);
-        println!(rt; "  warning: the sheets have {sheet} and {other_sheet} words")?;
-    }
-    let clash = job_clash(rt.alloc(), one, two, reader)?;
-    if let Some(at) = clash {
-        warnings = warnings.saturating_add(1);
-        println!(rt;
-            "  warning: the jobs differ in word {at}, counted from 0, which the reader may see"
-        )?;
-    }
-    Ok(warnings)
-}
-
-fn job_clash<K: LabelKind>(
-    heap: Global,
-    one: &Side<K>,
-    two: &Side<K>,
-    reader: u8,
-) -> Result<Option<usize>, AllocError> {
-    match LaidOut::check(one.press.image()) {
-        Err(_) => Ok(None),
-        Ok(image) => first_job_clash(
-            heap,
-            one.press.kind(),
+    // A reader of this label before the image on the box, if there is one.
+    fn reader(&self, label: u8) -> Option<Reader<'_, '_, K>> {
+        let image = LaidOut::check(self.press.image()).ok()?;
+        Some(Reader {
+            kind: self.press.kind(),
             image,
-            reader,
-            one.words.as_slice(),
-            two.words.as_slice(),
-        ),
+            label,
+        })
     }
-}
 
-// Runs the job on one side, and says what the reader sees of it.
-fn run_side<K: LabelKind>(
-    rt: &HostRuntime,
-    side: &mut Side<K>,
-    reader: u8,
-    job: Job<'_>,
-) -> Result<Outcome, Failure> {
-    let blank = Strike {
-        channel: 0,
-        word: 0,
-    };
-    let mut strip = vec![in rt.alloc(); blank; job.strip]?;
-    let mut sheet = vec![in rt.alloc(); 0u32; job.sheet]?;
-    let name = side.name;
-    match side.press.run(
-        side.words.as_slice(),
-        job.fuel,
-        strip.as_mut_slice(),
-        sheet.as_mut_slice(),
-    ) {
-        Err(fault) => {
-            let refusal = refusal_of(&side.press, fault, side.words.len(), job.sheet);
-            println!(rt; "  {name}: {refusal}")?;
-            let seen = Vec::new(rt.alloc());
-            Ok(Outcome {
-                seen,
-                sheet,
-                halted: false,
-            })
+    // Runs the job, and says what the reader sees of it; answers what it left if it halted.
+    fn run(
+        &mut self,
+        rt: &HostRuntime,
+        reader: u8,
+        call: &JobCall<'_>,
+    ) -> Result<Option<Halted>, Failure> {
+        let name = self.name;
+        match run(rt.alloc(), &mut self.press, call)? {
+            Err(refusal) => {
+                println!(rt; "  {name}: {refusal}")?;
+                Ok(None)
+            }
+            Ok(printed) => {
+                let seen = self.sight(rt.alloc(), reader, printed.strikes.as_slice())?;
+                self.seen.extend_from_slice(seen.as_slice())?;
+                let end = printed.end;
+                let strikes = StrikesText(seen.as_slice());
+                println!(rt; "  {name}: {end}; the reader sees {strikes}")?;
+                let sheet = printed.sheet;
+                Ok(match printed.end {
+                    End::Halted => Some(Halted { seen, sheet }),
+                    End::Spent | End::Full => None,
+                })
+            }
         }
-        Ok(ran) => {
-            strip.truncate(ran.strikes);
-            let seen = sight(rt.alloc(), &side.press, reader, strip.as_slice())?;
-            side.seen.extend_from_slice(seen.as_slice())?;
-            let end = EndText(ran.end);
-            let strikes = StrikesText(seen.as_slice());
-            println!(rt; "  {name}: {end}; the reader sees {strikes}")?;
-            Ok(Outcome {
-                seen,
-                sheet,
-                halted: matches!(ran.end, End::Halted),
-            })
+    }
+
+    // Those of the strikes that the reader may see.
+    fn sight(
+        &self,
+        heap: Global,
+        reader: u8,
+        strikes: &[Strike],
+    ) -> Result<Vec<Strike>, AllocError> {
+        match self.reader(reader) {
+            Some(reader) => reader.seen(heap, strikes),
+            None => Ok(Vec::new(heap)),
         }
     }
 }
 
-// Those of the strikes that the reader may see.
-fn sight<K: LabelKind>(
-    heap: Global,
-    press: &ImprintBox<K>,
-    reader: u8,
-    strikes: &[Strike],
-) -> Result<Vec<Strike>, AllocError> {
-    match LaidOut::check(press.image()) {
-        Ok(image) => seen(heap, press.kind(), image, reader, strikes),
-        Err(_) => Ok(Vec::new(heap)),
+impl<K: LabelKind> Comparison<'_, K> {
+    // One call on both sides.
+    fn go_on(&mut self, x: &Line<'_>, y: &Line<'_>, image: &[u32]) -> Result<(), Failure> {
+        match (&x.call, &y.call) {
+            (Call::Job(a), Call::Job(b)) => self.run(a, b),
+            (Call::Load, Call::Load) => Ok(self.load("load", image)?),
+            (Call::Job(_), Call::Load) | (Call::Load, Call::Job(_)) => {
+                let n = x.number;
+                let m = y.number;
+                Err(Failure::Said(format!(in self.rt.alloc();
+                    "line {n} of the first edition is a job and line {m} of the second a load, or the other way round; two printings go through the same calls"
+                )?))
+            }
+        }
     }
-}
 
-// Says how the two sides stand to the reader after a run; answers how often they are apart.
-fn tell_apart<K: LabelKind>(
-    rt: &HostRuntime,
-    one: &Side<K>,
-    two: &Side<K>,
-    reader: u8,
-    x: &Outcome,
-    y: &Outcome,
-) -> Result<usize, Failure> {
-    let mut apart: usize = 0;
-    match compare(one.seen.as_slice(), two.seen.as_slice()) {
-        Agreement::Same => println!(rt; "  the same on both sides since the load")?,
-        Agreement::FirstBegins => {
-            println!(rt; "  since the load, the first is a beginning of the second")?;
+    // An accepted load begins anew what the reader has seen.
+    fn load(&mut self, name: &str, image: &[u32]) -> io::Result<()> {
+        load(self.rt, &mut self.one.press, name, image)?;
+        if self.two.press.load(image).is_ok() {
+            self.one.seen.clear();
+            self.two.seen.clear();
         }
-        Agreement::SecondBegins => {
-            println!(rt; "  since the load, the second is a beginning of the first")?;
+        Ok(())
+    }
+
+    fn run(&mut self, a: &JobCall<'_>, b: &JobCall<'_>) -> Result<(), Failure> {
+        let name = a.name();
+        let other = b.name();
+        println!(self.rt; "jobs {name} and {other}")?;
+        self.findings.jobs = self.findings.jobs.saturating_add(1);
+        self.weigh_jobs(a, b)?;
+        let x = self.one.run(self.rt, self.reader, a)?;
+        let y = self.two.run(self.rt, self.reader, b)?;
+        self.tell_apart()?;
+        if let (Some(x), Some(y)) = (x, y) {
+            self.tell_halted_apart(&x, &y)?;
         }
-        Agreement::Apart { at } => {
-            apart = apart.saturating_add(1);
-            println!(rt;
-                "  APART: since the load, at the record {at} that the reader sees, counted from 0"
+        Ok(())
+    }
+
+    // Says where the two jobs differ in what the reader may see, or in a length.
+    fn weigh_jobs(&mut self, a: &JobCall<'_>, b: &JobCall<'_>) -> Result<(), Failure> {
+        let rt = self.rt;
+        let n = a.words.len();
+        let m = b.words.len();
+        let sheet = a.job.sheet;
+        let other_sheet = b.job.sheet;
+        if n != m {
+            self.findings
+                .warn(rt, format_args!("the jobs have {n} and {m} words"))?;
+        }
+        if sheet != other_sheet {
+            self.findings.warn(
+                rt,
+                format_args!("the sheets have {sheet} and {other_sheet} words"),
             )?;
         }
-    }
-    if !x.halted || !y.halted {
-        return Ok(apart);
-    }
-    if let Agreement::Same = compare(x.seen.as_slice(), y.seen.as_slice()) {} else {
-        apart = apart.saturating_add(1);
-        println!(rt; "  APART: both jobs halted, and the reader sees other strikes of them")?;
-    }
-    let clash = cell_clash(
-        rt.alloc(),
-        &one.press,
-        reader,
-        x.sheet.as_slice(),
-        y.sheet.as_slice(),
-    )?;
-    if let Some(at) = clash {
-        apart = apart.saturating_add(1);
-        println!(rt;
-            "  APART: both jobs halted, and cell {at}, which the reader may see, differs"
+        let clash = self.clash(
+            |reader, heap, xs, ys| reader.first_job_clash(heap, xs, ys),
+            a.words.as_slice(),
+            b.words.as_slice(),
         )?;
+        if let Some(at) = clash {
+            self.findings.warn(
+                rt,
+                format_args!(
+                    "the jobs differ in word {at}, counted from 0, which the reader may see"
+                ),
+            )?;
+        }
+        Ok(())
     }
-    Ok(apart)
-}
 
-fn cell_clash<K: LabelKind>(
-    heap: Global,
-    press: &ImprintBox<K>,
-    reader: u8,
-    x: &[u32],
-    y: &[u32],
-) -> Result<Option<usize>, AllocError> {
-    match LaidOut::check(press.image()) {
-        Err(_) => Ok(None),
-        Ok(image) => first_cell_clash(heap, press.kind(), image, reader, x, y),
+    // Says how the two sides stand to the reader after a run.
+    fn tell_apart(&mut self) -> io::Result<()> {
+        let rt = self.rt;
+        match compare(self.one.seen.as_slice(), self.two.seen.as_slice()) {
+            Agreement::Same => println!(rt; "  the same on both sides since the load"),
+            Agreement::FirstBegins => {
+                println!(rt; "  since the load, the first is a beginning of the second")
+            }
+            Agreement::SecondBegins => {
+                println!(rt; "  since the load, the second is a beginning of the first")
+            }
+            Agreement::Apart { at } => self.findings.note_apart(
+                rt,
+                format_args!(
+                    "since the load, at the record {at} that the reader sees, counted from 0"
+                ),
+            ),
+        }
     }
-}
 
-fn conclude(rt: &HostRuntime, reader: u8, findings: Findings) -> io::Result<()> {
-    let jobs = Several(findings.jobs, "pair");
-    let warnings = Several(findings.warnings, "warning");
-    print!(rt; "compare: {jobs} of jobs, {warnings}: ")?;
-    match (findings.apart, findings.warnings) {
-        (0, _) => println!(rt; "reader {reader} cannot tell the two printings apart"),
-        (_, 0) => println!(rt;
-            "reader {reader} can tell the two printings apart, against the promise: keep these files and report it"
-        ),
-        _ => println!(rt;
-            "reader {reader} can tell the two printings apart; the warnings say why the promise does not speak of them"
-        ),
+    // The same where both jobs halted.
+    fn tell_halted_apart(&mut self, x: &Halted, y: &Halted) -> Result<(), Failure> {
+        let rt = self.rt;
+        if compare(x.seen.as_slice(), y.seen.as_slice()) != Agreement::Same {
+            self.findings.note_apart(
+                rt,
+                "both jobs halted, and the reader sees other strikes of them",
+            )?;
+        }
+        let clash = self.clash(
+            |reader, heap, xs, ys| reader.first_cell_clash(heap, xs, ys),
+            x.sheet.as_slice(),
+            y.sheet.as_slice(),
+        )?;
+        if let Some(at) = clash {
+            self.findings.note_apart(
+                rt,
+                format_args!("both jobs halted, and cell {at}, which the reader may see, differs"),
+            )?;
+        }
+        Ok(())
+    }
+
+    // What the reader's search finds, if the boxes hold an image: the first place of the two lists that the reader may see and that
+    // differs.
+    fn clash<F>(&self, search: F, xs: &[u32], ys: &[u32]) -> Result<Option<usize>, AllocError>
+    where
+        F: FnOnce(Reader<'_, '_, K>, Global, &[u32], &[u32]) -> Result<Option<usize>, AllocError>,
+        requires { F.IsAlwaysCallable search }
+    {
+        match self.one.reader(self.reader) {
+            Some(reader) => search(reader, self.rt.alloc(), xs, ys),
+            None => Ok(None),
+        }
+    }
+
+    fn conclude(&self) -> io::Result<()> {
+        let rt = self.rt;
+        let reader = self.reader;
+        let jobs = Several(self.findings.jobs, "pair");
+        let warnings = Several(self.findings.warnings, "warning");
+        print!(rt; "compare: {jobs} of jobs, {warnings}: ")?;
+        match (self.findings.apart, self.findings.warnings) {
+            (0, _) => println!(rt; "reader {reader} cannot tell the two printings apart"),
+            (_, 0) => println!(rt;
+                "reader {reader} can tell the two printings apart, against the promise: keep these files and report it"
+            ),
+            _ => println!(rt;
+                "reader {reader} can tell the two printings apart; the warnings say why the promise does not speak of them"
+            ),
+        }
     }
 }

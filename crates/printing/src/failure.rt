@@ -1,28 +1,16 @@
 // What keeps the program from doing its job, for standard error.
 use std::alloc::{AllocError, AllocFailed};
-use std::{fmt, io};
+use std::io;
+use thiserror::Error;
 
-#[derive(Drop)]
+#[derive(Debug, Drop, Error)]
 pub enum Failure {
+    #[error("{0}")]
     Said(String),
-    Io(io::Error),
+    #[error("{0}")]
+    Io(#[from] io::Error),
+    #[error("out of memory")]
     Memory,
-}
-
-impl fmt::Display for Failure {
-    fn fmt<W: fmt::Write>(&self, f: &mut fmt::Formatter<W>) -> fmt::Result {
-        match self {
-            Failure::Said(text) => write!(f, "{text}"),
-            Failure::Io(e) => write!(f, "{e}"),
-            Failure::Memory => write!(f, "out of memory"),
-        }
-    }
-}
-
-impl From<io::Error> for Failure {
-    fn from(e: io::Error) -> Failure {
-        Failure::Io(e)
-    }
 }
 
 impl From<AllocError> for Failure {

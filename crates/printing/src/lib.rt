@@ -1,8 +1,9 @@
-// Editions on a box, for the program that people run: an edition is a list of jobs for one image. `print` runs them and prints a record of
-// each; `compare` runs two editions on two boxes and prints what a reader sees on each side. What they know of boxes, readers and lines is
-// in the libraries below, with contracts; what is read and printed has none.
+// Editions on a box: an edition is a list of jobs for one image. `print_edition` runs them and prints a record of each; `compare_editions`
+// runs two editions on two boxes and prints what a reader sees on each side. What they know of boxes, readers and lines is in the libraries
+// below, with contracts; what is read and printed has none.
 #![tactic(auto)]
 
+mod calls;
 mod compare;
 mod failure;
 mod files;

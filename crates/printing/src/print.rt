@@ -1,19 +1,16 @@
-// `imprint print`: every job of an edition, and a record of each.
+// Runs every job of an edition, and prints a record of each.
+use crate::calls::{Printed, load, run};
 use crate::failure::Failure;
 use crate::files::{image_of, text_of};
-use crate::lines::{lines_of, name_text};
-use crate::record::{EndText, PassText, RunRefusal};
-use edition::{Entry, Job, read_line};
+use crate::lines::{Call, JobCall, lines_of};
 use labels::LabelKind;
 use machine::ran::End;
-use machine::strike::Strike;
-use press_box::fault::RunFault;
 use press_box::imprint_box::ImprintBox;
-use std::io;
+use std::{fmt, io};
 use wording::Several;
 
 // How the calls of an edition came out.
-#[derive(Clone, Copy)]
+#[derive(Clone, Copy, Default)]
 struct Tally {
     halted: usize,
     spent: usize,
@@ -33,6 +30,36 @@ impl Tally {
     }
 }
 
+impl fmt::Display for Tally {
+    fn fmt<W: fmt::Write>(&self, f: &mut fmt::Formatter<W>) -> fmt::Result {
+        let Tally {
+            halted,
+            spent,
+            full,
+            refused,
+            loads,
+        } = *self;
+        let jobs = halted
+            .saturating_add(spent)
+            .saturating_add(full)
+            .saturating_add(refused);
+        let jobs = Several(jobs, "job");
+        let loads = Several(loads, "further load");
+        write!(
+            f,
+            "{jobs}: {halted} halted, {spent} spent, {full} full, {refused} refused; {loads}"
+        )
+    }
+}
+
+// A printing under way: its box, and how the calls on it came out so far.
+#[derive(Drop)]
+struct Printing<'a, K> {
+    rt: &'a HostRuntime,
+    press: ImprintBox<K>,
+    tally: Tally,
+}
+
 // Loads the image, and runs every job of the edition in its order.
 pub fn print_edition<K: LabelKind + Drop>(
     rt: &HostRuntime,
@@ -43,123 +70,61 @@ pub fn print_edition<K: LabelKind + Drop>(
     let words = image_of(rt, image)?;
     let text = text_of(rt, edition)?;
     let lines = lines_of(rt.alloc(), edition, text.as_str())?;
-    let mut press = ImprintBox::new(kind);
-    load(rt, &mut press, image, words.as_slice())?;
-    let mut tally = Tally {
-        halted: 0,
-        spent: 0,
-        full: 0,
-        refused: 0,
-        loads: 0,
+    let mut printing = Printing {
+        rt,
+        press: ImprintBox::new(kind),
+        tally: Tally::default(),
     };
-    let mut job_words = Vec::new(rt.alloc());
+    load(rt, &mut printing.press, image, words.as_slice())?;
     for line in lines.iter() {
-        match read_line(line.text.as_bytes(), &mut job_words) {
-            Ok(Entry::Job(job)) => {
-                run_job(rt, &mut press, job, job_words.as_slice(), &mut tally)?;
+        match &line.call {
+            Call::Job(call) => printing.run(call)?,
+            Call::Load => printing.load_again(words.as_slice())?,
+        }
+    }
+    let tally = printing.tally;
+    println!(rt; "edition: {tally}")?;
+    Ok(())
+}
+
+impl<K: LabelKind> Printing<'_, K> {
+    // A line `load`.
+    fn load_again(&mut self, image: &[u32]) -> io::Result<()> {
+        self.tally.loads = self.tally.loads.saturating_add(1);
+        load(self.rt, &mut self.press, "load", image)
+    }
+
+    // One job: its record.
+    fn run(&mut self, call: &JobCall<'_>) -> Result<(), Failure> {
+        let name = call.name();
+        match run(self.rt.alloc(), &mut self.press, call)? {
+            Err(refusal) => {
+                self.tally.refused = self.tally.refused.saturating_add(1);
+                println!(self.rt; "job {name}: {refusal}")?;
             }
-            Ok(Entry::Load) => {
-                tally.loads = tally.loads.saturating_add(1);
-                load(rt, &mut press, "load", words.as_slice())?;
+            Ok(printed) => {
+                self.tally.count(printed.end);
+                self.record(name, &printed)?;
             }
-            _ => {}
         }
+        Ok(())
     }
-    summary(rt, tally)?;
-    Ok(())
-}
 
-// Loads the image, and says what the box answers.
-pub fn load<K: LabelKind>(
-    rt: &HostRuntime,
-    press: &mut ImprintBox<K>,
-    name: &str,
-    image: &[u32],
-) -> io::Result<()> {
-    match press.load(image) {
-        Ok(()) => {
-            let size = Several(image.len(), "word");
-            println!(rt; "{name}: accepted, {size}")
+    fn record(&self, name: &str, printed: &Printed) -> io::Result<()> {
+        let end = printed.end;
+        let steps = printed.steps;
+        let made = Several(printed.strikes.len(), "strike");
+        println!(self.rt; "job {name}: {end} after {steps} steps, {made}")?;
+        for strike in printed.strikes.iter() {
+            println!(self.rt; "  strike on channel {}: {}", strike.channel, strike.word)?;
         }
-        Err(fault) => {
-            let number = fault.number();
-            let place = fault.place();
-            let pass = PassText(fault.pass());
-            println!(rt;
-                "{name}: refused {number} at word {place}, {pass}; 'imprint check' says why"
-            )
+        print!(self.rt; "  cells:")?;
+        for word in printed.sheet.iter().take(self.press.cell_count()) {
+            print!(self.rt; " {word}")?;
         }
+        println!(self.rt; "")?;
+        advise(self.rt, printed.end)
     }
-}
-
-// One job: its record.
-fn run_job<K: LabelKind>(
-    rt: &HostRuntime,
-    press: &mut ImprintBox<K>,
-    job: Job<'_>,
-    words: &[u32],
-    tally: &mut Tally,
-) -> Result<(), Failure> {
-    let blank = Strike {
-        channel: 0,
-        word: 0,
-    };
-    let mut strip = vec![in rt.alloc(); blank; job.strip]?;
-    let mut sheet = vec![in rt.alloc(); 0u32; job.sheet]?;
-    let name = name_text(job.name);
-    match press.run(words, job.fuel, strip.as_mut_slice(), sheet.as_mut_slice()) {
-        Err(fault) => {
-            tally.refused = tally.refused.saturating_add(1);
-            let refusal = refusal_of(press, fault, words.len(), job.sheet);
-            println!(rt; "job {name}: {refusal}")?;
-        }
-        Ok(ran) => {
-            tally.count(ran.end);
-            let end = EndText(ran.end);
-            let steps = ran.steps;
-            let strikes = ran.strikes;
-            let made = Several(strikes, "strike");
-            println!(rt; "job {name}: {end} after {steps} steps, {made}")?;
-            print_strikes(rt, strip.as_slice(), strikes)?;
-            print_cells(rt, sheet.as_slice(), press.cell_count())?;
-            advise(rt, ran.end)?;
-        }
-    }
-    Ok(())
-}
-
-// What was given, beside what the image asks.
-pub fn refusal_of<K: LabelKind>(
-    press: &ImprintBox<K>,
-    fault: RunFault,
-    job: usize,
-    sheet: usize,
-) -> RunRefusal {
-    RunRefusal {
-        fault,
-        job,
-        job_asked: press.job_length(),
-        sheet,
-        sheet_asked: press.cell_count(),
-    }
-}
-
-fn print_strikes(rt: &HostRuntime, strip: &[Strike], strikes: usize) -> io::Result<()> {
-    for strike in strip.iter().take(strikes) {
-        let channel = strike.channel;
-        let word = strike.word;
-        println!(rt; "  strike on channel {channel}: {word}")?;
-    }
-    Ok(())
-}
-
-fn print_cells(rt: &HostRuntime, sheet: &[u32], cells: usize) -> io::Result<()> {
-    print!(rt; "  cells:")?;
-    for word in sheet.iter().take(cells) {
-        let word = *word;
-        print!(rt; " {word}")?;
-    }
-    println!(rt; "")
 }
 
 // What the engineer has to do where the job stopped the box.
@@ -173,23 +138,4 @@ fn advise(rt: &HostRuntime, end: End) -> io::Result<()> {
             "  the strip is full and the box is stopped: give this job a longer strip, and load the image again (a line 'load') before the next job"
         ),
     }
-}
-
-fn summary(rt: &HostRuntime, tally: Tally) -> io::Result<()> {
-    let Tally {
-        halted,
-        spent,
-        full,
-        refused,
-        loads,
-    } = tally;
-    let jobs = halted
-        .saturating_add(spent)
-        .saturating_add(full)
-        .saturating_add(refused);
-    let jobs = Several(jobs, "job");
-    let loads = Several(loads, "further load");
-    println!(rt;
-        "edition: {jobs}: {halted} halted, {spent} spent, {full} full, {refused} refused; {loads}"
-    )
 }

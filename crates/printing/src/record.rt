@@ -1,22 +1,8 @@
 // The record of a run, in words.
-use machine::ran::End;
 use machine::strike::Strike;
 use press_box::fault::{Pass, RunFault};
 use std::fmt;
 use wording::Several;
-
-#[derive(Clone, Copy)]
-pub struct EndText(pub End);
-
-impl fmt::Display for EndText {
-    fn fmt<W: fmt::Write>(&self, f: &mut fmt::Formatter<W>) -> fmt::Result {
-        match self.0 {
-            End::Halted => write!(f, "halted"),
-            End::Spent => write!(f, "spent"),
-            End::Full => write!(f, "full"),
-        }
-    }
-}
 
 #[derive(Clone, Copy)]
 pub struct PassText(pub Pass);
@@ -31,41 +17,47 @@ impl fmt::Display for PassText {
     }
 }
 
-// A refused run: why, and what to do. The lengths are those that were given and those that the image asks.
+// A refused run: why, and what to do. A length that was given stands beside the one that the image asks.
 #[derive(Clone, Copy)]
-pub struct RunRefusal {
-    pub fault: RunFault,
-    pub job: usize,
-    pub job_asked: usize,
-    pub sheet: usize,
-    pub sheet_asked: usize,
+pub enum RunRefusal {
+    Empty,
+    Stopped,
+    JobLength { given: usize, asked: usize },
+    SheetTooShort { given: usize, asked: usize },
+}
+
+impl RunRefusal {
+    // The box's answer.
+    fn fault(self) -> RunFault {
+        match self {
+            RunRefusal::Empty => RunFault::Empty,
+            RunRefusal::Stopped => RunFault::Stopped,
+            RunRefusal::JobLength { .. } => RunFault::JobLength,
+            RunRefusal::SheetTooShort { .. } => RunFault::SheetTooShort,
+        }
+    }
 }
 
 impl fmt::Display for RunRefusal {
     fn fmt<W: fmt::Write>(&self, f: &mut fmt::Formatter<W>) -> fmt::Result {
-        let number = self.fault.number();
-        match self.fault {
-            RunFault::Empty => write!(f, "refused {number}: the box is empty; load an image"),
-            RunFault::Stopped => write!(
+        let number = self.fault().number();
+        write!(f, "refused {number}: ")?;
+        match *self {
+            RunRefusal::Empty => write!(f, "the box is empty; load an image"),
+            RunRefusal::Stopped => write!(
                 f,
-                "refused {number}: the box is stopped by an earlier job; put a line 'load' before this one"
+                "the box is stopped by an earlier job; put a line 'load' before this one"
             ),
-            RunFault::JobLength => {
-                let given = Several(self.job, "word");
-                let asked = self.job_asked;
-                write!(
-                    f,
-                    "refused {number}: the job has {given}, the image has {asked} integer cells; give a word for each"
-                )
-            }
-            RunFault::SheetTooShort => {
-                let given = Several(self.sheet, "word");
-                let asked = self.sheet_asked;
-                write!(
-                    f,
-                    "refused {number}: the sheet has {given}, the image has {asked} cells; give the sheet a word for each"
-                )
-            }
+            RunRefusal::JobLength { given, asked } => write!(
+                f,
+                "the job has {}, the image has {asked} integer cells; give a word for each",
+                Several(given, "word")
+            ),
+            RunRefusal::SheetTooShort { given, asked } => write!(
+                f,
+                "the sheet has {}, the image has {asked} cells; give the sheet a word for each",
+                Several(given, "word")
+            ),
         }
     }
 }
@@ -76,18 +68,12 @@ pub struct StrikesText<'a>(pub &'a [Strike]);
 
 impl fmt::Display for StrikesText<'_> {
     fn fmt<W: fmt::Write>(&self, f: &mut fmt::Formatter<W>) -> fmt::Result {
-        if self.0.is_empty() {
+        let Some((first, others)) = self.0.split_first() else {
             return write!(f, "nothing");
-        }
-        let mut parted = false;
-        for strike in self.0 {
-            if parted {
-                write!(f, " ")?;
-            }
-            parted = true;
-            let channel = strike.channel;
-            let word = strike.word;
-            write!(f, "{channel}:{word}")?;
+        };
+        write!(f, "{}:{}", first.channel, first.word)?;
+        for strike in others {
+            write!(f, " {}:{}", strike.channel, strike.word)?;
         }
         Ok(())
     }

@@ -16,21 +16,12 @@ use Rattle.image.specs.Finding.{Finding, clear, fault, Tests, ◌then◌, broken
 use Rattle.image.specs.Layout.{stand, outset, size_fine, between, counted, cells_of, tests_of_head, no_such_kind, word_tests, step, after_head, end_tests, onward, layout}
 use Rattle.image.specs.Items.{Piece, pieces_from, reach, pieces}
 use Rattle.image.proofs.Reading.{read}
+use Rattle.image.proofs.Splitting.{first_clear, then_clear}
 use Rattle.rules.specs.LaidOut.{Every}
 use Rattle.programme.specs.Lookup.{WithinLimits}
 
 abbrev pub Limited : Piece → Type 0
 Limited p = WithinLimits p.section (length p.words)
-
--- ---- findings
-
-first_clear : {R : Type 0} (x y : Finding R) → (x then y) ≡ clear → x ≡ clear
-first_clear clear y e = refl
-first_clear (fault r p) y e = absurd (let z : ◌≡◌ {A = ℕ} 0 1 = cc in omega arith)
-
-then_clear : {R : Type 0} (x y : Finding R) → (x then y) ≡ clear → y ≡ clear
-then_clear clear y e = e
-then_clear (fault r p) y e = absurd (let z : ◌≡◌ {A = ℕ} 0 1 = cc in omega arith)
 
 -- clear tests are kept
 abbrev Kept : {R : Type 0} → Tests R → Type 0

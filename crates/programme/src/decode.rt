@@ -9,18 +9,12 @@ use image::word::Word;
 pub fn type_in(raw: u32) -> Ty
     ensures { result ≡ type_in raw }
 {
-    match Ty::decode(Word::of(raw)) {
-        None => Ty::Nonsense,
-        Some(t) => t,
-    }
+    Ty::decode(Word::from(raw)).unwrap_or(Ty::Nonsense)
 }
 
 // The instruction that a word says, as the last of its block or as another. One that says none stands in no item.
 pub fn instruction_in(last: bool, raw: u32) -> Instruction
     ensures { result ≡ instruction_in last raw }
 {
-    match Instruction::decode(last, Word::of(raw)) {
-        None => Instruction::Halt,
-        Some(i) => i,
-    }
+    Instruction::decode(last, Word::from(raw)).unwrap_or(Instruction::Halt)
 }

@@ -1,3 +1,7 @@
+ghost use Rattle.image.specs.Finding.{clear};
+ghost use Rattle.image.specs.Layout.{layout};
+ghost use Rattle.std.specs.Prelude.{◌≡◌};
+
 mod check;
 mod lookup;
 
@@ -6,4 +10,5 @@ mod lookup;
 #[derive(Clone, Copy)]
 pub struct LaidOut<'a> {
     words: &'a [u32],
+    ghost sound: { layout words.now ≡ clear },
 }

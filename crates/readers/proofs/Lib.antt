@@ -1,7 +1,3 @@
-pub mod Looking
+pub mod Filtering
 pub mod Parting
-pub mod Pushing
-pub mod Sighting
 pub mod Walking
-pub mod Filling
-pub mod Linking

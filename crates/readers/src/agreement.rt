@@ -1,11 +1,12 @@
-ghost use Rattle.readers.specs.Compared.{Compared};
-ghost use Rattle.std.specs.Prelude.{◌≡◌, MatchBool, ◌≢◌};
+ghost use Rattle.readers.specs.Compared.{Compared, PartAt};
+ghost use Rattle.std.specs.Prelude.{◌≡◌, MatchOption, length, min, take};
 
 use machine::strike::Strike;
+use std::cmp::Ordering;
 
 // How two lists of strikes stand to each other: they are the same, one is a beginning of the other and shorter, or they part at a
 // record.
-#[derive(Clone, Copy)]
+#[derive(Clone, Copy, PartialEq, Eq, Debug)]
 pub enum Agreement {
     Same,
     FirstBegins,
@@ -16,23 +17,19 @@ pub enum Agreement {
 pub fn compare(xs: &[Strike], ys: &[Strike]) -> Agreement
     ensures { Compared xs.now ys.now result }
 {
-    for (at, x) in xs.iter().enumerate() {
-        if at == ys.len() {
-            return Agreement::SecondBegins;
-        }
-        if !same_strike(*x, ys[at]) {
-            return Agreement::Apart { at };
-        }
-    }
-    if xs.len() < ys.len() {
-        Agreement::FirstBegins
-    } else {
-        Agreement::Same
+    match first_apart(xs, ys) {
+        Some(at) => Agreement::Apart { at },
+        None => match xs.len().cmp(&ys.len()) {
+            Ordering::Less => Agreement::FirstBegins,
+            Ordering::Equal => Agreement::Same,
+            Ordering::Greater => Agreement::SecondBegins,
+        },
     }
 }
 
-fn same_strike(x: Strike, y: Strike) -> bool
-    ensures { MatchBool result (x ≡ y) (x ≢ y) }
+// The first place at which both lists have a record, and not the same one.
+fn first_apart(xs: &[Strike], ys: &[Strike]) -> Option<usize>
+    ensures { MatchOption result (take (min (length xs.now) (length ys.now)) xs.now ≡ take (min (length xs.now) (length ys.now)) ys.now) (λ at. PartAt xs.now ys.now at) }
 {
-    x.channel == y.channel && x.word == y.word
+    xs.iter().zip(ys).position(|(x, y)| x != y)
 }

@@ -1,12 +1,13 @@
+ghost use Rattle.image.specs.Words.{split};
 ghost use Rattle.machine.specs.Cells.{job_labels};
 ghost use Rattle.programme.specs.Spelled.{program_in};
 ghost use Rattle.rules.specs.Program.{shape_at, cell_types};
 ghost use Rattle.rules.specs.Says.{type_in};
 ghost use Rattle.rules.specs.Types.{label_of};
-ghost use Rattle.std.specs.Prelude.{◌≡◌, ◌++◌, map, IfOk, OnOk};
+ghost use Rattle.std.specs.Prelude.{◌≡◌, map, slice_index, IfOk};
 
 use crate::words::word_at;
-use image::item::Item;
+use image::item::{Item, Part};
 use image::items::Items;
 use image::ty::Ty;
 use image::word::Word;
@@ -16,19 +17,17 @@ use rules::types::{is_integer, label_of};
 use std::alloc::{AllocError, Global};
 
 // The labels of the cells that a job fills, one for each word of a job.
+#[tactic(auto, using(crate::proofs::Filtering::filled))]
 pub fn job_labels(heap: Global, image: LaidOut<'_>) -> Result<Vec<u8>, AllocError>
     ensures { IfOk result (λ v. v.items ≡ job_labels (program_in image.entry)) }
 {
     let types = cell_types(heap, image)?;
-    let cells = types.as_slice();
-    let mut labels = Vec::new(heap);
-    for ty in cells {
-        if !is_integer(*ty) {
-            continue;
-        }
-        labels.push(label_of(*ty))?;
-    }
-    Ok(labels)
+    types
+        .iter()
+        .copied()
+        .filter(|ty| is_integer(*ty))
+        .map(label_of)
+        .collect(heap)
 }
 
 // The labels of all cells.
@@ -36,12 +35,7 @@ pub fn cell_labels(heap: Global, image: LaidOut<'_>) -> Result<Vec<u8>, AllocErr
     ensures { IfOk result (λ v. v.items ≡ map label_of (cell_types (program_in image.entry))) }
 {
     let types = cell_types(heap, image)?;
-    let cells = types.as_slice();
-    let mut labels = Vec::new(heap);
-    for cell in cells {
-        labels.push(label_of(*cell))?;
-    }
-    Ok(labels)
+    types.iter().copied().map(label_of).collect(heap)
 }
 
 // The types of all cells, tuple by tuple.
@@ -53,29 +47,15 @@ fn cell_types(heap: Global, image: LaidOut<'_>) -> Result<Vec<Ty>, AllocError>
         let Item::Tuple(part) = item else {
             continue;
         };
-        let shape = Word::of(word_at(part.words, 0)).c;
-        let words = shape_types(image, shape);
-        add_types(&mut types, words)?;
+        types.extend(types_of(image, part).iter().copied().map(type_in))?;
     }
     Ok(types)
 }
 
-// Adds the types that the words say.
-fn add_types(types: &mut Vec<Ty>, words: &[u32]) -> Result<(), AllocError>
-    ensures { OnOk result (types.new.items ≡ types.old.items ++ map type_in words.now) }
+// The words of the types of a tuple's cells, by its head. Of a shape that the programme lacks there are none.
+fn types_of<'a>(image: LaidOut<'a>, tuple: Part<'_>) -> &'a [u32]
+    ensures { map type_in result.now ≡ shape_at (program_in image.entry) (split (slice_index tuple.entry.words.now 0)).c }
 {
-    for word in words {
-        types.push(type_in(*word))?;
-    }
-    Ok(())
-}
-
-// The type words of a shape's cells, or none.
-fn shape_types(image: LaidOut<'_>, n: u8) -> &[u32]
-    ensures { map type_in result.now ≡ shape_at (program_in image.entry) n }
-{
-    match image.shape(n) {
-        None => &[],
-        Some(shape) => shape.types,
-    }
+    let head = Word::from(word_at(tuple.words, 0));
+    image.shape_types(head.c)
 }

@@ -7,30 +7,32 @@ use machine::strike::Strike;
 use programme::laid_out::LaidOut;
 use std::alloc::{AllocError, Global};
 
-// Whether the reader may see what is struck on the channel. A channel that the programme lacks counts as one of label 0.
-pub fn may_see<K: LabelKind>(kind: &K, image: LaidOut<'_>, reader: u8, channel: u8) -> bool
-    ensures { result ≡ (K.LabelKind.meaning kind.now).below (slice_index (program_in image.entry).channels channel) reader }
-{
-    let label = image.channel(channel).unwrap_or(0);
-    kind.at_or_below(label, reader)
+// A reader of what an image prints: the reader's label, and the kind by which labels compare.
+#[derive_where(Clone, Copy)]
+pub struct Reader<'k, 'i, K> {
+    pub kind: &'k K,
+    pub image: LaidOut<'i>,
+    pub label: u8,
 }
 
-// Those of the strikes that the reader may see, in their order.
-pub fn seen<K: LabelKind>(
-    heap: Global,
-    kind: &K,
-    image: LaidOut<'_>,
-    reader: u8,
-    strikes: &[Strike],
-) -> Result<Vec<Strike>, AllocError>
-    ensures { IfOk result (λ v. v.items ≡ seen (K.LabelKind.meaning kind.now) (program_in image.entry) reader strikes.now) }
-{
-    let mut sight = Vec::new(heap);
-    for strike in strikes {
-        if !may_see(kind, image, reader, strike.channel) {
-            continue;
-        }
-        sight.push(*strike)?;
+impl<'k, 'i, K: LabelKind> Reader<'k, 'i, K> {
+    // Whether the reader may see what is struck on the channel. A channel that the programme lacks counts as one of label 0.
+    pub fn may_see(self, channel: u8) -> bool
+        ensures { result ≡ (K.LabelKind.meaning self.entry.kind.now).below (slice_index (program_in self.entry.image).channels channel) self.entry.label }
+    {
+        let label = self.image.channel(channel).unwrap_or(0);
+        self.kind.at_or_below(label, self.label)
     }
-    Ok(sight)
+
+    // Those of the strikes that the reader may see, in their order.
+    #[tactic(auto, using(crate::proofs::Filtering::sighted))]
+    pub fn seen(self, heap: Global, strikes: &[Strike]) -> Result<Vec<Strike>, AllocError>
+        ensures { IfOk result (λ v. v.items ≡ seen (K.LabelKind.meaning self.entry.kind.now) (program_in self.entry.image) self.entry.label strikes.now) }
+    {
+        strikes
+            .iter()
+            .copied()
+            .filter(|strike| self.may_see(strike.channel))
+            .collect(heap)
+    }
 }

@@ -4,5 +4,5 @@ ghost use Rattle.std.specs.Prelude.{◌≡◌, slice_index};
 pub(crate) fn word_at(words: &[u32], i: usize) -> u32
     ensures { result ≡ slice_index words.now i }
 {
-    if i < words.len() { words[i] } else { 0 }
+    words.get(i).copied().unwrap_or(0)
 }

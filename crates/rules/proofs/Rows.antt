@@ -6,7 +6,7 @@ use Rattle.image.specs.declared.counts.Counts.{Counts}
 use Rattle.image.specs.declared.head.Head.{Head}
 use Rattle.image.specs.declared.rule.LayoutRule.{LayoutRule}
 use Rattle.image.specs.declared.rule.LayoutRule.TheVariants.{TooLong}
-use Rattle.image.specs.declared.stand.Stand.{Stand}
+use Rattle.image.specs.Layout.{Stand}
 use Rattle.image.specs.Words.{split}
 use Rattle.image.specs.Sections.{rank, most}
 use Rattle.image.specs.Heads.{head_of, head_word, section_of, follows}

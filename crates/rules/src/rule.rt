@@ -3,7 +3,7 @@ ghost use Rattle.rules.specs.Naming.{naming_number};
 ghost use Rattle.std.specs.Prelude.{◌≡◌};
 
 // The rules of the naming pass. Refusals go by number, and several rules share one.
-#[derive(Clone, Copy)]
+#[derive(Clone, Copy, PartialEq, Eq)]
 pub enum NamingRule {
     // 4: a register is one of eight
     NoSuchRegister,
@@ -44,7 +44,7 @@ impl NamingRule {
 }
 
 // The rules of the flow pass.
-#[derive(Clone, Copy)]
+#[derive(Clone, Copy, PartialEq, Eq)]
 pub enum FlowRule {
     // 8: an operand has the sort and number that the instruction asks
     WrongSort,

@@ -36,48 +36,43 @@ pub fn code(signature: u8, label: u8) -> Ty
 pub fn same_sort(one: Sort, other: Sort) -> bool
     ensures { result ≡ same_sort one other }
 {
-    match (one, other) {
-        (Sort::Integer, Sort::Integer) => true,
-        (Sort::Pointer { shape: s }, Sort::Pointer { shape: u }) => s == u,
-        (Sort::Code { signature: s }, Sort::Code { signature: u }) => s == u,
-        _ => false,
-    }
+    one == other
 }
 
 pub fn is_integer(t: Ty) -> bool
     ensures { result ≡ is_integer t }
 {
-    match t {
+    matches!(
+        t,
         Ty::Typed {
             sort: Sort::Integer,
             ..
-        } => true,
-        _ => false,
-    }
+        }
+    )
 }
 
 pub fn is_pointer(t: Ty) -> bool
     ensures { result ≡ is_pointer t }
 {
-    match t {
+    matches!(
+        t,
         Ty::Typed {
             sort: Sort::Pointer { .. },
             ..
-        } => true,
-        _ => false,
-    }
+        }
+    )
 }
 
 pub fn is_code(t: Ty) -> bool
     ensures { result ≡ is_code t }
 {
-    match t {
+    matches!(
+        t,
         Ty::Typed {
             sort: Sort::Code { .. },
             ..
-        } => true,
-        _ => false,
-    }
+        }
+    )
 }
 
 // Neither is nonsense, and both have one sort and number.
@@ -85,7 +80,7 @@ pub fn alike(one: Ty, other: Ty) -> bool
     ensures { result ≡ alike one other }
 {
     match (one, other) {
-        (Ty::Typed { sort: s, .. }, Ty::Typed { sort: o, .. }) => same_sort(s, o),
+        (Ty::Typed { sort: s, .. }, Ty::Typed { sort: o, .. }) => s == o,
         _ => false,
     }
 }
@@ -130,52 +125,30 @@ pub fn level(k: Context) -> u8
     }
 }
 
-pub fn same_context(one: Context, other: Context) -> bool
-    ensures { result ≡ same_context one other }
+pub fn same_context(here: Context, there: Context) -> bool
+    ensures { result ≡ same_context here there }
 {
-    match (one, other) {
-        (Context::Empty, Context::Empty) => true,
-        (
-            Context::Raised {
-                label: l,
-                postdominator: n,
-            },
-            Context::Raised {
-                label: k,
-                postdominator: o,
-            },
-        ) => l == k && n == o,
-        _ => false,
-    }
+    here == there
 }
 
 pub fn is_empty(k: Context) -> bool
     ensures { result ≡ is_empty k }
 {
-    match k {
-        Context::Empty => true,
-        Context::Raised { .. } => false,
-    }
+    k == Context::Empty
 }
 
 // Raised with this postdominator.
 pub fn raised_to(block: u8, k: Context) -> bool
     ensures { result ≡ raised_to block k }
 {
-    match k {
-        Context::Empty => false,
-        Context::Raised { postdominator, .. } => postdominator == block,
-    }
+    matches!(k, Context::Raised { postdominator, .. } if postdominator == block)
 }
 
 // By sort and number: nonsense is wanted, or both have one sort and number.
 pub fn fit_sort(have: Ty, want: Ty) -> bool
     ensures { result ≡ fit_sort have want }
 {
-    match want {
-        Ty::Nonsense => true,
-        Ty::Typed { .. } => alike(have, want),
-    }
+    want.is_nonsense() || alike(have, want)
 }
 
 // By label, where sort and number agree: what is there is at or below what is wanted.
@@ -184,7 +157,7 @@ pub fn fit_label<K: LabelKind>(kind: &K, have: Ty, want: Ty) -> bool
 {
     match (have, want) {
         (Ty::Typed { sort: o, label: l }, Ty::Typed { sort: s, label: k }) => {
-            !same_sort(o, s) || kind.at_or_below(l, k)
+            o != s || kind.at_or_below(l, k)
         }
         _ => true,
     }

@@ -1,5 +1,5 @@
 -- The cells that a job fills: they are as their types ask, and two jobs that agree where the reader sees lay cells that do.
-use mathlib.Core.Path.{◌≡◌, refl, ap}
+use mathlib.Core.Path.{◌≡◌, refl}
 use mathlib.Core.List.{List, [], ◌∷◌, ◌++◌}
 use Prim.Native.Nat.{ℕ, zero, suc, ◌<◌}
 use native.Mathlib.Omega.{arith}
@@ -15,6 +15,7 @@ use Rattle.rules.specs.LaidOut.{Every}
 use Rattle.rules.specs.Named.{TupleNamed}
 use Rattle.machine.specs.Cells.{filled_labels, image_words, laid, cells_for}
 use Rattle.secrecy.specs.Seen.{SameJobs}
+use Rattle.machine.proofs.Laying.{laid_length}
 use Rattle.secrecy.proofs.Lists.{Agree}
 use Rattle.secrecy.proofs.Setting.{Setting, Holds, cells_at, Open, Bank}
 use Rattle.secrecy.proofs.Sound.{plain_holds, cells_labelled}
@@ -48,13 +49,6 @@ module _ (p : Program) where
   laid_holds (Typed (Pointer s) l ∷ ts) ws job h (suc i) = laid_holds ts (drop 1 ws) job h.1 i
   laid_holds (Typed (Code s) l ∷ ts) ws job h zero = h.0
   laid_holds (Typed (Code s) l ∷ ts) ws job h (suc i) = laid_holds ts (drop 1 ws) job h.1 i
-
-pub laid_length : (ts : List Ty) (ws job : List ℕ) → length (laid ts ws job) ≡ length ts
-laid_length [] ws job = refl
-laid_length (Nonsense ∷ ts) ws job = ap suc (laid_length ts (drop 1 ws) job)
-laid_length (Typed Integer l ∷ ts) ws job = ap suc (laid_length ts (drop 1 ws) (drop 1 job))
-laid_length (Typed (Pointer s) l ∷ ts) ws job = ap suc (laid_length ts (drop 1 ws) job)
-laid_length (Typed (Code s) l ∷ ts) ws job = ap suc (laid_length ts (drop 1 ws) job)
 
 module _ (w : Setting) where
   fitting_tuples : (ts : List Tuple) → Every (TupleNamed w.meaning w.program) ts → Fitting w.program (cell_types_of w.program ts) (image_words ts)

@@ -16,7 +16,7 @@ use Rattle.machine.specs.Cells.{job_labels, image_words, cells_for, start}
 use Rattle.machine.specs.Box.{Model, Order, Exit, refusal, written, outcome, exit, no_words, ran_as}
 use Rattle.secrecy.specs.Promise.{program_in}
 use Rattle.secrecy.specs.Checks.{KeepsLengths}
-use Rattle.secrecy.proofs.Cells.{laid_length}
+use Rattle.machine.proofs.Laying.{laid_length}
 
 module _ (p : Program) where
   -- a deed leaves n cells

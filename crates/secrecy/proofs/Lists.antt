@@ -2,31 +2,13 @@
 -- pop do to what is known of each place of a bank.
 use mathlib.Core.Path.{◌≡◌, refl, sym, ◌∙◌}
 use mathlib.Core.List.{List, ◌++◌}
-use mathlib.Core.Logic.{◌≢◌}
 use Prim.Native.Nat.{ℕ, zero, suc, ◌+◌, ◌≤◌, ◌<◌}
 use native.Mathlib.Omega.{arith}
-use native.Mathlib.Decide.{ℕ_discrete, dec_lt}
 use lib.ListN.{length, get_or, set, drop, replicate, length-set, length-drop}
 use lib.Seq.{get_or-set_same, get_or-set_other, get_or-drop, set_out, set-get_or}
 use Rattle.image.specs.declared.ty.Ty.{Ty}
 use Rattle.image.specs.declared.ty.Ty.TheVariants.{Nonsense}
-
--- how index r stands to a store at index a of a list of n places
-data Spot (n a r : ℕ) : Type 0 where
-  here : r ≡ a → a < n → Spot n a r
-  past : n ≤ a → Spot n a r
-  other : r ≢ a → Spot n a r
-
-spot : (n a r : ℕ) → Spot n a r
-spot n a r = by_index (ℕ_discrete r a)
-  where
-    by_length : r ≡ a → Dec (a < n) → Spot n a r
-    by_length e (yes h) = here e h
-    by_length e (no h) = past (omega arith)
-
-    by_index : Dec (r ≡ a) → Spot n a r
-    by_index (yes e) = by_length e (dec_lt a n)
-    by_index (no h) = other h
+use Rattle.machine.proofs.Holding.{Spot, here, past, other, spot}
 
 -- ---- what Q says of each place of two banks of one type, of its type and its two words
 

@@ -13,7 +13,9 @@ use Rattle.rules.specs.Types.{level, reg, slot}
 use Rattle.rules.specs.LaidOut.{Every, SignatureLaid}
 use Rattle.rules.specs.Named.{NoAddress, TypeNamed, ContextNamed, Plain, InstructionNamed, SignatureNamed, BlockNamed}
 use Rattle.rules.specs.WellTyped.{Checked, BlockTyped}
-use Rattle.secrecy.proofs.Every.{every_at, every_past, every_append}
+use Rattle.machine.proofs.Every.{every_at}
+use Rattle.rules.proofs.ItemWords.{every_join}
+use Rattle.secrecy.proofs.Every.{every_past}
 use Rattle.secrecy.proofs.Setting.{Setting, Holds, Labelled, Label, context_at, types_at, words_at, cells_at}
 
 module _ (w : Setting) where
@@ -89,6 +91,6 @@ module _ (w : Setting) where
       in_tuples : (ts : List Tuple) → Every (TypeNamed w.meaning w.program) (cell_types_of w.program ts)
       in_tuples [] = tt
       in_tuples (t ∷ ts) =
-          every_append (TypeNamed w.meaning w.program) (shape_at w.program t.shape) (cell_types_of w.program ts)
+          every_join (TypeNamed w.meaning w.program) (shape_at w.program t.shape) (cell_types_of w.program ts)
           (every_past (Every (TypeNamed w.meaning w.program)) w.program.shapes t.shape [] w.named.shapes tt)
           (in_tuples ts)

@@ -2,7 +2,7 @@
 // fits where control goes, and the parts of a programme that this asks for.
 #![tactic(auto)]
 
-pub mod fit;
+mod fit;
 pub mod lookup;
 pub mod promise;
 pub mod state;

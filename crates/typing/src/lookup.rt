@@ -1,3 +1,5 @@
+#![tactic(auto, using(std::proofs::lemmas::Option::gets, std::proofs::lemmas::Grind::common_steps))]
+
 ghost use Rattle.typing.specs.Promises.{promised};
 ghost use Rattle.image.specs.declared.ty.Ty.TheVariants.{Nonsense};
 ghost use Rattle.programme.specs.Lookup.{Between};
@@ -21,60 +23,38 @@ use programme::parts::SignatureWords;
 pub fn channel_label(image: &LaidOut<'_>, n: u8) -> u8
     ensures { result ≡ slice_index (program_in image.now).channels n }
 {
-    match image.channel(n) {
-        None => 0,
-        Some(label) => label,
-    }
+    image.channel(n).unwrap_or(0)
 }
 
 // The number of a tuple's shape, or 0.
 pub fn tuple_shape(image: &LaidOut<'_>, n: u8) -> u8
     ensures { result ≡ (tuple_at (program_in image.now) n).shape }
 {
-    match image.tuple(n as u32) {
-        None => 0,
-        Some(found) => found.shape,
-    }
+    image.tuple(u32::from(n)).map_or(0, |found| found.shape)
 }
 
 // The number of a block's signature, or 0.
 pub fn block_signature(image: &LaidOut<'_>, n: u8) -> u8
     ensures { result ≡ (block_at (program_in image.now) n).signature }
 {
-    match image.block(n as u32) {
-        None => 0,
-        Some(found) => found.signature,
-    }
-}
-
-// The type words of a shape's cells, or none.
-fn shape_types<'a>(image: &LaidOut<'a>, n: u8) -> &'a [u32]
-    ensures { map type_in result.now ≡ shape_at (program_in image.now) n }
-{
-    match image.shape(n) {
-        None => &[],
-        Some(found) => found.types,
-    }
+    image.block(u32::from(n)).map_or(0, |found| found.signature)
 }
 
 // How many cells a shape has, or none.
 fn shape_size(image: &LaidOut<'_>, n: u8) -> usize
     ensures { result ≡ length (shape_at (program_in image.now) n) }
 {
-    shape_types(image, n).len()
+    image.shape_types(n).len()
 }
 
 // Whether t is a pointer to tuples that have a cell n.
 pub fn has_cell(image: &LaidOut<'_>, t: Ty, n: u8) -> bool
     ensures { result ≡ has_cell (program_in image.now) t n }
 {
-    match t {
-        Ty::Typed {
-            sort: Sort::Pointer { shape },
-            ..
-        } => (n as usize) < shape_size(image, shape),
-        _ => false,
-    }
+    matches!(
+        t,
+        Ty::Typed { sort: Sort::Pointer { shape }, .. } if usize::from(n) < shape_size(image, shape)
+    )
 }
 
 // The type of cell n of the tuple at a pointer, nonsense where there is none.
@@ -85,7 +65,7 @@ pub fn cell_type(image: &LaidOut<'_>, t: Ty, n: u8) -> Ty
         Ty::Typed {
             sort: Sort::Pointer { shape },
             ..
-        } => type_at(shape_types(image, shape), n),
+        } => type_at(image.shape_types(shape), n),
         _ => Ty::Nonsense,
     }
 }
@@ -94,12 +74,10 @@ pub fn cell_type(image: &LaidOut<'_>, t: Ty, n: u8) -> Ty
 fn type_at(words: &[u32], n: u8) -> Ty
     ensures { result ≡ slice_index_or (map type_in words.now) n Nonsense }
 {
-    let i = n as usize;
-    if i < words.len() {
-        type_in(words[i])
-    } else {
-        Ty::Nonsense
-    }
+    words
+        .get(usize::from(n))
+        .copied()
+        .map_or(Ty::Nonsense, type_in)
 }
 
 // What holds where there is no signature: nothing.
@@ -118,10 +96,11 @@ fn promise_of<'a>(found: SignatureWords<'a>) -> Promise<'a>
     requires { Between 8 40 (length found.types.now) }
     ensures { promised result ≡ signature_spelled found.entry }
 {
+    let (registers, slots) = found.types.split_at(8);
     Promise {
         context: found.context,
-        registers: &found.types[0..8],
-        slots: &found.types[8..],
+        registers,
+        slots,
     }
 }
 
@@ -129,10 +108,7 @@ fn promise_of<'a>(found: SignatureWords<'a>) -> Promise<'a>
 pub fn signature_promise<'a>(image: &LaidOut<'a>, n: u8) -> Promise<'a>
     ensures { promised result ≡ signature_at (program_in image.now) n }
 {
-    let Some(found) = image.signature(n) else {
-        return no_promise();
-    };
-    promise_of(found)
+    image.signature(n).map_or(no_promise(), promise_of)
 }
 
 // What the signature of a block promises.

@@ -19,19 +19,19 @@ use rules::types::level;
 #[derive(Drop)]
 pub struct State {
     context: Context,
-    registers: Row<Ty>,
-    slots: Row<Ty>,
+    registers: Row<Ty, 8>,
+    slots: Row<Ty, 32>,
 }
 
 impl State {
     // What is known on entry of a block.
-    pub fn of(p: &Promise<'_>) -> State
-        ensures { known result ≡ promised p.now }
+    pub fn of(promise: &Promise<'_>) -> State
+        ensures { known result ≡ promised promise.now }
     {
         State {
-            context: p.context,
-            registers: types_in(p.registers),
-            slots: types_in(p.slots),
+            context: promise.context,
+            registers: types_in(promise.registers),
+            slots: types_in(promise.slots),
         }
     }
 
@@ -94,7 +94,8 @@ impl State {
         self.slots.put(usize::from(n), t);
     }
 
-    // So many slots more on top, of which nothing is known. Where there is no room, nothing changes.
+    // So many slots more on top, of which nothing is known. Where there is no room, nothing changes, and the answer says so as that of
+    // `Row` does.
     pub fn push(&mut self, count: u8) -> bool
         ensures room { result ≡ nat_le (length (known self.old).types.slots + count) 32 }
         ensures after { known self.new ≡ with_slots (known self.old) (if result then replicate count Nonsense ++ (known self.old).types.slots else (known self.old).types.slots) }
@@ -120,13 +121,13 @@ impl State {
 }
 
 // The types that words within a signature are.
-fn types_in(words: &[u32]) -> Row<Ty>
-    requires { length words.now ≤ 32 }
+fn types_in<const N: usize>(words: &[u32]) -> Row<Ty, N>
+    requires { length words.now ≤ N }
     ensures { held result ≡ map type_in words.now }
 {
     let mut row = Row::empty(Ty::Nonsense);
-    for i in (0..words.len()).rev() {
-        let _ = row.push(1, type_in(words[i]));
+    for word in words.iter().rev() {
+        let _ = row.push(1, type_in(*word));
     }
     row
 }

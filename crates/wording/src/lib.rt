@@ -7,8 +7,10 @@ mod listing;
 mod nouns;
 mod refusal;
 mod terms;
+mod verdict;
 
 pub use listing::{ItemLines, Summary};
 pub use nouns::{Noun, Several};
 pub use refusal::LayoutRefusal;
 pub use terms::{ContextText, InstructionText, TypeText};
+pub use verdict::LayoutVerdict;

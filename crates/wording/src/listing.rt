@@ -19,8 +19,7 @@ impl<'a> fmt::Display for ItemLines<'a> {
         let part = self.0.part();
         let section = self.0.section();
         let size = part.words.len();
-        for (i, raw) in part.words.iter().enumerate() {
-            let raw = *raw;
+        for (i, &raw) in part.words.iter().enumerate() {
             let place = part.place.saturating_add(i);
             write!(f, "{place:>5}  {raw:08X}  ")?;
             if i == 0 {
@@ -39,7 +38,7 @@ fn head_line<W: fmt::Write>(
     raw: u32,
     f: &mut fmt::Formatter<W>,
 ) -> fmt::Result {
-    match Head::decode(Word::of(raw)) {
+    match Head::decode(Word::from(raw)) {
         Some(head) => writeln!(f, "{} {number}: {}", Noun(section), HeadText(head)),
         None => writeln!(f, "{} {number}", Noun(section)),
     }
@@ -73,14 +72,14 @@ fn inner_line<W: fmt::Write>(
 }
 
 fn type_line<W: fmt::Write>(raw: u32, f: &mut fmt::Formatter<W>) -> fmt::Result {
-    match Ty::decode(Word::of(raw)) {
+    match Ty::decode(Word::from(raw)) {
         Some(t) => writeln!(f, "{}", TypeText(t)),
         None => writeln!(f, "no type"),
     }
 }
 
 fn instruction_line<W: fmt::Write>(last: bool, raw: u32, f: &mut fmt::Formatter<W>) -> fmt::Result {
-    match Instruction::decode(last, Word::of(raw)) {
+    match Instruction::decode(last, Word::from(raw)) {
         Some(i) => writeln!(f, "  {}", InstructionText(i)),
         None => writeln!(f, "  no instruction"),
     }

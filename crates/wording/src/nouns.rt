@@ -24,12 +24,8 @@ pub struct Several(pub usize, pub &'static str);
 
 impl fmt::Display for Several {
     fn fmt<W: fmt::Write>(&self, f: &mut fmt::Formatter<W>) -> fmt::Result {
-        let n = self.0;
-        let name = self.1;
-        if n == 1 {
-            write!(f, "{n} {name}")
-        } else {
-            write!(f, "{n} {name}s")
-        }
+        let Several(n, name) = *self;
+        let ending = if n == 1 { "" } else { "s" };
+        write!(f, "{n} {name}{ending}")
     }
 }

@@ -28,7 +28,7 @@ struct Within {
     index: usize,
 }
 
-impl<'a> fmt::Display for LayoutRefusal<'a> {
+impl fmt::Display for LayoutRefusal<'_> {
     fn fmt<W: fmt::Write>(&self, f: &mut fmt::Formatter<W>) -> fmt::Result {
         let place = self.fault.place;
         let number = self.fault.rule.number();
@@ -39,24 +39,27 @@ impl<'a> fmt::Display for LayoutRefusal<'a> {
                 f,
                 "there is no word {place} and no block, and block 0 is where a run starts"
             ),
-            LayoutRule::CutShort => cut_short(self.within(), place, f),
-            _ => at_word(*self, f),
+            LayoutRule::CutShort => self.cut_short(f),
+            _ => self.at_word(f),
         }
     }
 }
 
-impl<'a> LayoutRefusal<'a> {
+impl LayoutRefusal<'_> {
     // The word at a place, 0 past the end.
-    fn word(&self, place: usize) -> u32 {
+    fn raw(&self, place: usize) -> u32 {
         self.image.get(place).copied().unwrap_or(0)
+    }
+
+    // The word at the fault.
+    fn word(&self) -> Word {
+        Word::from(self.raw(self.fault.place))
     }
 
     // The item that begins where the whole ones end, if its head is one.
     fn within(&self) -> Option<Within> {
         let start = self.seen.end;
-        let Some(head) = Head::decode(Word::of(self.word(start))) else {
-            return None;
-        };
+        let head = Head::decode(Word::from(self.raw(start)))?;
         let section = head.section();
         Some(Within {
             section,
@@ -65,82 +68,130 @@ impl<'a> LayoutRefusal<'a> {
             index: self.fault.place.saturating_sub(start),
         })
     }
+
+    fn cut_short<W: fmt::Write>(&self, f: &mut fmt::Formatter<W>) -> fmt::Result {
+        let place = self.fault.place;
+        let Some(at) = self.within() else {
+            return write!(f, "there is no word {place}: the image ends inside an item");
+        };
+        let here = at.index.saturating_sub(1);
+        write!(
+            f,
+            "there is no word {place}: the image ends inside {} {}, ",
+            Noun(at.section),
+            at.number
+        )?;
+        write!(
+            f,
+            "whose head asks for {} and gets {here}",
+            Several(at.follows, "word")
+        )
+    }
+
+    // The sentences that begin with the word at the fault.
+    fn at_word<W: fmt::Write>(&self, f: &mut fmt::Formatter<W>) -> fmt::Result {
+        let raw = self.raw(self.fault.place);
+        write!(f, "{raw:08X} ")?;
+        match self.within() {
+            Some(at) if at.index > 0 => self.inside(at, f),
+            _ => self.at_head(f),
+        }
+    }
+
+    fn at_head<W: fmt::Write>(&self, f: &mut fmt::Formatter<W>) -> fmt::Result {
+        let word = self.word();
+        let Some(head) = Head::decode(word) else {
+            let kind = word.kind;
+            return write!(
+                f,
+                "has kind {kind:02X}, and the head of an item is wanted here, of kind 01 to 05"
+            );
+        };
+        match self.fault.rule {
+            LayoutRule::FieldNotZero => extra_field(Word::from(head), word, f),
+            LayoutRule::TooManyItems => too_many(head.section(), f),
+            LayoutRule::SizeOutOfRange => size_range(head, f),
+            LayoutRule::TooManyCells => too_many_cells(self.seen.cells, head.follows(), f),
+            _ => out_of_order(head.section(), self.seen.counts, f),
+        }
+    }
+
+    fn inside<W: fmt::Write>(&self, at: Within, f: &mut fmt::Formatter<W>) -> fmt::Result {
+        match at.section {
+            Section::Blocks => self.in_block(at, f),
+            _ => self.in_types(at, f),
+        }
+    }
+
+    // A type word of a shape or a signature.
+    fn in_types<W: fmt::Write>(&self, at: Within, f: &mut fmt::Formatter<W>) -> fmt::Result {
+        let word = self.word();
+        match (self.fault.rule, Ty::decode(word)) {
+            (LayoutRule::FieldNotZero, Some(t)) => extra_field(Word::from(t), word, f),
+            (_, Some(_)) => write!(
+                f,
+                "is nonsense, and shape {} has no nonsense cell",
+                at.number
+            ),
+            (_, None) => {
+                let kind = word.kind;
+                write!(
+                    f,
+                    "has kind {kind:02X}, and a type of {} {} is wanted here, ",
+                    Noun(at.section),
+                    at.number
+                )?;
+                match at.section {
+                    Section::Shapes => write!(f, "of kind 11 to 13"),
+                    _ => write!(f, "of kind 10 to 13"),
+                }
+            }
+        }
+    }
+
+    // An instruction word of a block.
+    fn in_block<W: fmt::Write>(&self, at: Within, f: &mut fmt::Formatter<W>) -> fmt::Result {
+        let word = self.word();
+        let last = at.index == at.follows;
+        let number = at.number;
+        let kind = word.kind;
+        match (self.fault.rule, Instruction::decode(last, word)) {
+            (LayoutRule::FieldNotZero, Some(i)) => extra_field(Word::from(i), word, f),
+            _ if last => write!(
+                f,
+                "has kind {kind:02X}, and the last word of block {number} must end it, by kind 30 to 32"
+            ),
+            _ if matches!(kind, 0x30..=0x32) => write!(
+                f,
+                "ends a block, and only the last of the {} words of block {number} may",
+                at.follows
+            ),
+            _ => write!(
+                f,
+                "has kind {kind:02X}, and an instruction of block {number} is wanted here, of kind 20 to 2E"
+            ),
+        }
+    }
 }
 
 fn too_long<W: fmt::Write>(size: usize, f: &mut fmt::Formatter<W>) -> fmt::Result {
     write!(
         f,
-        "the image has {size} words, and at most 2048 are allowed"
+        "the image has {size} words, and at most {MOST_WORDS} are allowed"
     )
-}
-
-fn cut_short<W: fmt::Write>(
-    within: Option<Within>,
-    place: usize,
-    f: &mut fmt::Formatter<W>,
-) -> fmt::Result {
-    let Some(w) = within else {
-        return write!(f, "there is no word {place}: the image ends inside an item");
-    };
-    let here = w.index.saturating_sub(1);
-    write!(
-        f,
-        "there is no word {place}: the image ends inside {} {}, ",
-        Noun(w.section),
-        w.number
-    )?;
-    write!(
-        f,
-        "whose head asks for {} and gets {here}",
-        Several(w.follows, "word")
-    )
-}
-
-// The sentences that begin with the word at the fault.
-fn at_word<W: fmt::Write>(r: LayoutRefusal<'_>, f: &mut fmt::Formatter<W>) -> fmt::Result {
-    let raw = r.word(r.fault.place);
-    write!(f, "{raw:08X} ")?;
-    match r.within() {
-        Some(w) if w.index > 0 => inside(w, r.fault.rule, Word::of(raw), f),
-        _ => at_head(r.seen, r.fault.rule, Word::of(raw), f),
-    }
-}
-
-fn at_head<W: fmt::Write>(
-    seen: Survey,
-    rule: LayoutRule,
-    w: Word,
-    f: &mut fmt::Formatter<W>,
-) -> fmt::Result {
-    let Some(head) = Head::decode(w) else {
-        let kind = w.kind;
-        return write!(
-            f,
-            "has kind {kind:02X}, and the head of an item is wanted here, of kind 01 to 05"
-        );
-    };
-    match rule {
-        LayoutRule::FieldNotZero => extra_field(head.encode(), w, f),
-        LayoutRule::TooManyItems => too_many(head.section(), f),
-        LayoutRule::SizeOutOfRange => size_range(head, f),
-        LayoutRule::TooManyCells => too_many_cells(seen.cells, head.follows(), f),
-        _ => out_of_order(head.section(), seen.counts, f),
-    }
 }
 
 // The latest section that has an item.
 fn latest(n: Counts) -> Section {
-    if n.blocks > 0 {
-        Section::Blocks
-    } else if n.tuples > 0 {
-        Section::Tuples
-    } else if n.signatures > 0 {
-        Section::Signatures
-    } else if n.shapes > 0 {
-        Section::Shapes
-    } else {
-        Section::Channels
-    }
+    [
+        Section::Blocks,
+        Section::Tuples,
+        Section::Signatures,
+        Section::Shapes,
+    ]
+    .into_iter()
+    .find(|section| n.of(*section) > 0)
+    .unwrap_or(Section::Channels)
 }
 
 fn out_of_order<W: fmt::Write>(
@@ -222,74 +273,4 @@ fn extra_field<W: fmt::Write>(plain: Word, w: Word, f: &mut fmt::Formatter<W>) -
         f,
         "has {value} in field {name}, which a word of kind {kind:02X} does not use here and must leave 0"
     )
-}
-
-fn inside<W: fmt::Write>(
-    at: Within,
-    rule: LayoutRule,
-    w: Word,
-    f: &mut fmt::Formatter<W>,
-) -> fmt::Result {
-    match at.section {
-        Section::Blocks => in_block(at, rule, w, f),
-        _ => in_types(at, rule, w, f),
-    }
-}
-
-// A type word of a shape or a signature.
-fn in_types<W: fmt::Write>(
-    at: Within,
-    rule: LayoutRule,
-    w: Word,
-    f: &mut fmt::Formatter<W>,
-) -> fmt::Result {
-    match (rule, Ty::decode(w)) {
-        (LayoutRule::FieldNotZero, Some(t)) => extra_field(t.encode(), w, f),
-        (_, Some(_)) => write!(
-            f,
-            "is nonsense, and shape {} has no nonsense cell",
-            at.number
-        ),
-        (_, None) => {
-            let kind = w.kind;
-            write!(
-                f,
-                "has kind {kind:02X}, and a type of {} {} is wanted here, ",
-                Noun(at.section),
-                at.number
-            )?;
-            match at.section {
-                Section::Shapes => write!(f, "of kind 11 to 13"),
-                _ => write!(f, "of kind 10 to 13"),
-            }
-        }
-    }
-}
-
-// An instruction word of a block.
-fn in_block<W: fmt::Write>(
-    at: Within,
-    rule: LayoutRule,
-    w: Word,
-    f: &mut fmt::Formatter<W>,
-) -> fmt::Result {
-    let last = at.index == at.follows;
-    let number = at.number;
-    let kind = w.kind;
-    match (rule, Instruction::decode(last, w)) {
-        (LayoutRule::FieldNotZero, Some(i)) => extra_field(i.encode(), w, f),
-        _ if last => write!(
-            f,
-            "has kind {kind:02X}, and the last word of block {number} must end it, by kind 30 to 32"
-        ),
-        _ if kind >= 0x30 && kind <= 0x32 => write!(
-            f,
-            "ends a block, and only the last of the {} words of block {number} may",
-            at.follows
-        ),
-        _ => write!(
-            f,
-            "has kind {kind:02X}, and an instruction of block {number} is wanted here, of kind 20 to 2E"
-        ),
-    }
 }

@@ -78,74 +78,42 @@ pub struct InstructionText(pub Instruction);
 
 impl fmt::Display for InstructionText {
     fn fmt<W: fmt::Write>(&self, f: &mut fmt::Formatter<W>) -> fmt::Result {
+        use Instruction::*;
         match self.0 {
-            Instruction::SetNumber { to, value } => write!(f, "number    r{to} becomes {value}"),
-            Instruction::SetTuple { to, tuple } => write!(
+            SetNumber { to, value } => write!(f, "number    r{to} becomes {value}"),
+            SetTuple { to, tuple } => write!(f, "tuple     r{to} becomes tuple {tuple}"),
+            SetBlock { to, block } => write!(f, "block     r{to} becomes block {block}"),
+            Copy { to, from } => write!(f, "copy      r{to} becomes r{from}"),
+            Add { to, left, right } => write!(f, "add       r{to} becomes r{left} + r{right}"),
+            Subtract { to, left, right } => write!(f, "subtract  r{to} becomes r{left} - r{right}"),
+            Fetch { to, pointer, cell } => write!(
                 f,
-                "tuple     r{to} becomes tuple {tuple}"
+                "fetch     r{to} becomes cell {cell} of the tuple at r{pointer}"
             ),
-            Instruction::SetBlock { to, block } => write!(
-                f,
-                "block     r{to} becomes block {block}"
-            ),
-            Instruction::Copy { to, from } => write!(f, "copy      r{to} becomes r{from}"),
-            Instruction::Add { to, left, right } => write!(
-                f,
-                "add       r{to} becomes r{left} + r{right}"
-            ),
-            Instruction::Subtract { to, left, right } => write!(
-                f,
-                "subtract  r{to} becomes r{left} - r{right}"
-            ),
-            Instruction::Fetch { to, pointer, cell } => {
-                write!(
-                    f,
-                    "fetch     r{to} becomes cell {cell} of the tuple at r{pointer}"
-                )
-            }
-            Instruction::Store {
+            Store {
                 pointer,
                 from,
                 cell,
-            } => {
-                write!(
-                    f,
-                    "store     cell {cell} of the tuple at r{pointer} becomes r{from}"
-                )
-            }
-            _ => rest(self.0, f),
+            } => write!(
+                f,
+                "store     cell {cell} of the tuple at r{pointer} becomes r{from}"
+            ),
+            Push { count } => write!(f, "push      {}", Several(usize::from(count), "zero slot")),
+            Pop { count } => write!(f, "pop       {}", Several(usize::from(count), "slot")),
+            Peek { to, slot } => write!(f, "peek      r{to} becomes slot {slot}"),
+            Poke { from, slot } => write!(f, "poke      slot {slot} becomes r{from}"),
+            Strike { channel, from } => write!(f, "strike    r{from} on channel {channel}"),
+            Branch { test, target } => write!(
+                f,
+                "branch    to the block in r{target} if r{test} is not 0"
+            ),
+            Raise {
+                label,
+                postdominator,
+            } => write!(f, "raise     to label {label} until block {postdominator}"),
+            Jump { target } => write!(f, "jump      to the block in r{target}"),
+            Lower { block } => write!(f, "lower     to block {block}"),
+            Halt => write!(f, "halt"),
         }
-    }
-}
-
-// The instructions on the stack, on channels and on control.
-fn rest<W: fmt::Write>(i: Instruction, f: &mut fmt::Formatter<W>) -> fmt::Result {
-    match i {
-        Instruction::Push { count } => write!(
-            f,
-            "push      {}",
-            Several(usize::from(count), "zero slot")
-        ),
-        Instruction::Pop { count } => write!(
-            f,
-            "pop       {}",
-            Several(usize::from(count), "slot")
-        ),
-        Instruction::Peek { to, slot } => write!(f, "peek      r{to} becomes slot {slot}"),
-        Instruction::Poke { from, slot } => write!(f, "poke      slot {slot} becomes r{from}"),
-        Instruction::Strike { channel, from } => write!(
-            f,
-            "strike    r{from} on channel {channel}"
-        ),
-        Instruction::Branch { test, target } => {
-            write!(f, "branch    to the block in r{target} if r{test} is not 0")
-        }
-        Instruction::Raise {
-            label,
-            postdominator,
-        } => { write!(f, "raise     to label {label} until block {postdominator}") }
-        Instruction::Jump { target } => write!(f, "jump      to the block in r{target}"),
-        Instruction::Lower { block } => write!(f, "lower     to block {block}"),
-        _ => write!(f, "halt"),
     }
 }

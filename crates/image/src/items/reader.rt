@@ -16,6 +16,7 @@ use crate::word::Word;
 
 impl<'a> Items<'a> {
     // The items of an image, from its front to its first fault.
+    #[tactic(auto, using(crate::proofs::Splitting::splits))]
     pub fn of(image: &'a [u32]) -> Items<'a>
         ensures items { to_come result ≡ pieces image.now }
         ensures split { Split image.now (pieces image.now) }
@@ -47,24 +48,20 @@ impl<'a> Iterator for Items<'a> {
     fn next(&mut self) -> Option<Item<'a>> {
         let front = self.front;
         let place = self.seen.end;
-        match whole_head(&front[place..]) {
-            None => None,
-            Some(head) => {
-                let section = head.section();
-                let number = self.seen.counts.of(section);
-                let size = 1 + head.follows();
-                self.seen.add(section, size);
-                let words = &front[place..place + size];
-                Some(Item::of(
-                    section,
-                    Part {
-                        place,
-                        number,
-                        words,
-                    },
-                ))
-            }
-        }
+        let head = whole_head(&front[place..])?;
+        let section = head.section();
+        let number = self.seen.counts.of(section);
+        let size = 1 + head.follows();
+        self.seen.add(section, size);
+        let words = &front[place..place + size];
+        Some(Item::of(
+            section,
+            Part {
+                place,
+                number,
+                words,
+            },
+        ))
     }
 }
 
@@ -82,10 +79,7 @@ fn sound_words(image: &[u32]) -> usize
     ensures value { result ≡ reach image.now (layout image.now) }
     ensures within { result ≤ length image.now }
 {
-    match first_fault(image) {
-        None => image.len(),
-        Some(fault) => fault.place,
-    }
+    first_fault(image).map_or(image.len(), |fault| fault.place)
 }
 
 // The head of the item that the words begin with, where they hold the whole of it.
@@ -93,11 +87,6 @@ fn whole_head(words: &[u32]) -> Option<Head>
     ensures value { result ≡ whole_head words.now }
     ensures within { IfSome result (λ h. follows h < length words.now) }
 {
-    if words.is_empty() {
-        return None;
-    }
-    match Head::decode(Word::of(words[0])) {
-        Some(head) if head.follows() < words.len() => Some(head),
-        _ => None,
-    }
+    let raw = words.first()?;
+    Head::decode(Word::from(*raw)).filter(|head| head.follows() < words.len())
 }

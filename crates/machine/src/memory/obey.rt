@@ -44,7 +44,7 @@ impl Memory {
         }
     }
 
-    // Does what an instruction says that goes on to the next word.
+    // Does what an instruction says that goes on to the next word. Numbers wrap at 32 bits.
     fn change(&mut self, image: Runnable<'_>, i: Instruction, cells: &mut [u32])
         requires { CanMove (programme_of image) (state_of self.old cells.old) i }
         ensures { Moves (programme_of image.entry) (state_of self.old cells.old) i (state_of self.new cells.new) }
@@ -53,19 +53,33 @@ impl Memory {
             Instruction::SetNumber { to, value } => self.set_register(to, u32::from(value)),
             Instruction::SetTuple { to, tuple } => self.set_register(to, u32::from(tuple)),
             Instruction::SetBlock { to, block } => self.set_register(to, u32::from(block)),
-            Instruction::Copy { to, from } => self.copy(to, from),
-            Instruction::Add { to, left, right } => self.add(to, left, right),
-            Instruction::Subtract { to, left, right } => self.subtract(to, left, right),
-            Instruction::Fetch { to, pointer, cell } => self.fetch(image, cells, to, pointer, cell),
+            Instruction::Copy { to, from } => self.set_register(to, self.register(from)),
+            Instruction::Add { to, left, right } => {
+                self.set_register(to, self.register(left).wrapping_add(self.register(right)));
+            }
+            Instruction::Subtract { to, left, right } => {
+                self.set_register(to, self.register(left).wrapping_sub(self.register(right)));
+            }
+            Instruction::Fetch { to, pointer, cell } => {
+                self.set_register(to, cells[image.place(self.register(pointer), cell)]);
+            }
             Instruction::Store {
                 pointer,
                 from,
                 cell,
-            } => self.store(image, cells, pointer, from, cell),
-            Instruction::Push { count } => self.push(count),
-            Instruction::Pop { count } => self.pop(count),
-            Instruction::Peek { to, slot } => self.peek(to, slot),
-            Instruction::Poke { from, slot } => self.poke(from, slot),
+            } => cells[image.place(self.register(pointer), cell)] = self.register(from),
+            Instruction::Push { count } => {
+                self.stack.push(usize::from(count), 0);
+            }
+            Instruction::Pop { count } => self.stack.pop(usize::from(count)),
+            Instruction::Peek { to, slot } => {
+                let word = self.stack.get(usize::from(slot), 0);
+                self.set_register(to, word);
+            }
+            Instruction::Poke { from, slot } => {
+                let word = self.register(from);
+                self.stack.put(usize::from(slot), word);
+            }
             _ => unreachable(),
         }
     }

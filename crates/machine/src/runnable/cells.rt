@@ -1,12 +1,14 @@
-ghost use Rattle.std.specs.Prelude.{◌≡◌, ◌<◌, ◌≤◌, length};
+ghost use Rattle.std.specs.Prelude.{◌≡◌, ◌≤◌, count_by, length};
 ghost use Rattle.machine.specs.Cells.{job_labels};
+ghost use Rattle.machine.specs.Machine.{cell_place};
 ghost use Rattle.machine.specs.Runnables.{programme_of};
-ghost use Rattle.rules.specs.Program.{cell_types, base_in};
+ghost use Rattle.rules.specs.Fit.{is_integer};
+ghost use Rattle.rules.specs.Program.{cell_types, base_in, shape_at};
 
 use crate::runnable::Runnable;
 use crate::types::integer_types;
-use image::item::Item;
-use image::items::{Items, survey};
+use image::items::survey;
+use programme::parts::TupleWords;
 
 impl<'a> Runnable<'a> {
     // How many cells all tuples have.
@@ -22,31 +24,31 @@ impl<'a> Runnable<'a> {
         ensures value { result ≡ length (job_labels (programme_of self.entry)) }
         ensures few { result ≤ 256 }
     {
-        let mut count = 0;
-        for n in 0..self.tuple_count() {
-            let tuple = self.tuple(n);
-            let shape = self.shape(tuple.shape);
-            count += integer_types(shape.types);
-        }
-        count
+        self.tuples().map(|tuple| self.integer_cells(tuple)).sum()
+    }
+
+    // How many cells of the tuple a job fills.
+    fn integer_cells(self, tuple: TupleWords<'_>) -> usize
+        ensures { result ≡ count_by is_integer (shape_at (programme_of self.entry) tuple.entry.shape) }
+    {
+        integer_types(self.image.shape_types(tuple.shape))
+    }
+
+    // Where a cell of the tuple at a pointer lies among all cells.
+    pub(crate) fn place(self, pointer: u32, cell: u8) -> usize
+        ensures { result ≡ cell_place (programme_of self.entry) pointer cell }
+    {
+        self.base(pointer) + usize::from(cell)
     }
 
     // Where the cells of the tuple begin among all cells.
-    pub(crate) fn base(self, tuple: u32) -> usize
+    fn base(self, tuple: u32) -> usize
         ensures value { result ≡ base_in (programme_of self.entry).tuples tuple }
         ensures few { result ≤ 256 }
     {
-        let mut base = 0;
-        let mut left = tuple;
-        for item in Items::of(self.image.words()) {
-            if let Item::Tuple(part) = item {
-                if left == 0 {
-                    return base;
-                }
-                left -= 1;
-                base += part.words.len() - 1;
-            }
-        }
-        base
+        self.tuples()
+            .take(tuple as usize)
+            .map(|tuple| tuple.words.len())
+            .sum()
     }
 }

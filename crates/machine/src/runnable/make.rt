@@ -11,9 +11,7 @@ impl<'a> Runnable<'a> {
         requires { kind_free words.now ≡ true }
         ensures { words_of result ≡ words.now }
     {
-        match LaidOut::check(words) {
-            Ok(image) => Runnable { image },
-            Err(_) => unreachable(),
-        }
+        let image = LaidOut::check(words).unwrap();
+        Runnable { image }
     }
 }

@@ -4,7 +4,8 @@ ghost use Rattle.machine.specs.Box.{ran, stops_box};
 ghost use Rattle.machine.specs.Cells.{job_labels};
 ghost use Rattle.rules.specs.Program.{cell_types};
 ghost use Rattle.rules.specs.Says.{program_of};
-ghost use Rattle.std.specs.Prelude.{◌≡◌, length};
+ghost use Rattle.machine.specs.Runnables.{words_of};
+ghost use Rattle.std.specs.Prelude.{◌≡◌, ◌<◌, length, IfNone, IfSome};
 
 use super::ImageStore;
 use crate::fault::RunFault;
@@ -25,13 +26,10 @@ impl ImageStore {
     ) -> Result<Ran, RunFault>
         ensures { left result (stored self.new) strip.new sheet.new ≡ ran (stored self.old) (order job.now fuel strip.old sheet.old) }
     {
-        if self.len == 0 {
-            return Err(RunFault::Empty);
-        }
+        let image = self.runnable().ok_or(RunFault::Empty)?;
         if self.stopped {
             return Err(RunFault::Stopped);
         }
-        let image = Runnable::of(self.image());
         if job.len() != image.job_length() {
             return Err(RunFault::JobLength);
         }
@@ -44,27 +42,31 @@ impl ImageStore {
         self.stopped = stops_box(ran.end);
         Ok(ran)
     }
-}
 
-impl ImageStore {
+    // The image that is held, as one that may be run.
+    fn runnable(&self) -> Option<Runnable<'_>>
+        ensures empty { IfNone result (length (stored self.now).image ≡ 0) }
+        ensures some { IfSome result (λ r. 0 < length (stored self.now).image) }
+        ensures held { IfSome result (λ r. words_of r ≡ (stored self.now).image) }
+    {
+        if self.len == 0 {
+            return None;
+        }
+        Some(Runnable::of(self.image()))
+    }
+
     // How many words a job for the image that is held has; none where there is no image.
     pub fn job_length(&self) -> usize
         ensures { result ≡ length (job_labels (program_of (stored self.now).image)) }
     {
-        if self.len == 0 {
-            return 0;
-        }
-        Runnable::of(self.image()).job_length()
+        self.runnable().map_or(0, |image| image.job_length())
     }
 
     // How many cells the image that is held has; none where there is no image.
     pub fn cell_count(&self) -> usize
         ensures { result ≡ length (cell_types (program_of (stored self.now).image)) }
     {
-        if self.len == 0 {
-            return 0;
-        }
-        Runnable::of(self.image()).cell_count()
+        self.runnable().map_or(0, |image| image.cell_count())
     }
 }
 
@@ -72,8 +74,5 @@ impl ImageStore {
 fn stops_box(end: End) -> bool
     ensures { result ≡ stops_box end }
 {
-    match end {
-        End::Halted => false,
-        End::Spent | End::Full => true,
-    }
+    matches!(end, End::Spent | End::Full)
 }

@@ -1,5 +1,5 @@
 ghost use Rattle.image.specs.Layout.{layout};
-ghost use Rattle.programme.specs.Checked.{found};
+ghost use Rattle.image.specs.Faults.{answered};
 ghost use Rattle.programme.specs.Spelled.{words_in};
 ghost use Rattle.std.specs.Prelude.{◌≡◌, IfOk};
 
@@ -10,7 +10,7 @@ use image::rule::LayoutFault;
 impl<'a> LaidOut<'a> {
     // The words, where the layout pass finds nothing in them, or else its finding.
     pub fn check(words: &'a [u32]) -> Result<LaidOut<'a>, LayoutFault>
-        ensures finding { found result ≡ layout words.now }
+        ensures finding { answered result ≡ layout words.now }
         ensures kept { IfOk result (λ x. words_in x ≡ words.now) }
     {
         match first_fault(words) {

@@ -3,23 +3,23 @@ ghost use Rattle.rows.specs.Rows.{held};
 
 use super::Row;
 
-impl<T: Copy> Row<T> {
+impl<T: Copy, const N: usize> Row<T, N> {
     // No values. The places take some value of the type.
-    pub fn empty(fill: T) -> Row<T>
+    pub fn empty(fill: T) -> Self
         ensures { held result ≡ [] }
     {
         Row {
-            places: [fill; 32],
-            front: 32,
+            places: [fill; N],
+            front: N,
         }
     }
 
     // How many values there are.
     pub fn depth(&self) -> usize
         ensures value { result ≡ length (held self.now) }
-        ensures place { self.now.front + result ≡ 32 }
+        ensures place { self.now.front + result ≡ N }
     {
-        32 - self.front
+        N - self.front
     }
 
     // The values, the front one first.
@@ -34,34 +34,33 @@ impl<T: Copy> Row<T> {
     pub fn get(&self, n: usize, otherwise: T) -> T
         ensures { result ≡ slice_index_or (held self.now) n otherwise }
     {
-        if n >= self.depth() {
-            return otherwise;
-        }
-        self.places[self.front + n]
+        self.values().get(n).copied().unwrap_or(otherwise)
     }
 
     // The value at n from the front is replaced; where there is none nothing changes.
     pub fn put(&mut self, n: usize, value: T)
         ensures { held self.new ≡ slice_set (held self.old) n value }
     {
+        // by index, since `get_mut` says nothing of what the places are after the write
         if n < self.depth() {
             self.places[self.front + n] = value;
         }
     }
 
     // So many values more in front, all of them the same. Where there is no room, nothing changes.
+    // A `bool` says which it was: no caller has an error to hand on, and one that knows of the room drops it.
     pub fn push(&mut self, count: usize, value: T) -> bool
-        ensures room { result ≡ nat_le (length (held self.old) + count) 32 }
+        ensures room { result ≡ nat_le (length (held self.old) + count) N }
         ensures after { held self.new ≡ (if result then replicate count value ++ held self.old else held self.old) }
     {
         if count > self.front {
             return false;
         }
-        for _ in 0..count {
-            let front = self.front - 1;
-            self.places[front] = value;
-            self.front = front;
-        }
+        let front = self.front - count;
+        let all = &mut self.places[..];
+        // not by `fill`, which asks what a clone of the value is
+        all[front..self.front].fill_with(|| value);
+        self.front = front;
         true
     }
 
@@ -69,10 +68,6 @@ impl<T: Copy> Row<T> {
     pub fn pop(&mut self, count: usize)
         ensures { held self.new ≡ drop count (held self.old) }
     {
-        if count < self.depth() {
-            self.front += count;
-        } else {
-            self.front = 32;
-        }
+        self.front += count.min(self.depth());
     }
 }

@@ -1,13 +1,16 @@
-use Rattle.std.proofs.Common.{length}
-use Rattle.programme.specs.Spelled.{words_in, program_in}
+use Rattle.std.proofs.Common.{◌≡◌, length}
+use Rattle.image.specs.Reader.{to_come}
+use Rattle.rules.specs.Flow.{flow}
+use Rattle.rules.specs.LaidOut.{Every}
 use Rattle.rules.specs.Verdict.{flow_of}
-use Rattle.flow.proofs.Passing.{Passing}
+use Rattle.programme.specs.Spelled.{words_in, program_in}
+use Rattle.programme.proofs.Places.{InImage}
 use Rattle.flow.proofs.pass.check_flow.Given as goal
 
+-- the items to come lie within the image, and what is found in them is what is found in all
 abbrev pub invariant-loop-item : goal.invariant-loop-item
 invariant-loop-item g l =
-    let m = g.K.LabelKind.meaning l.kind in
-    let ns = words_in l.image in
     (goal.iterator-loop-item g).can_next l.item-iterator
     × (goal.iterator-loop-item g).is_finite l.item-iterator
-    × Passing m (program_in l.image) (length ns) (flow_of m ns) l.item-iterator
+    × Every (InImage (length (words_in l.image))) (to_come l.item-iterator)
+    × (flow (g.K.LabelKind.meaning l.kind) (program_in l.image) (to_come l.item-iterator) ≡ flow_of (g.K.LabelKind.meaning l.kind) (words_in l.image))

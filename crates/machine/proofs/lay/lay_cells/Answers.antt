@@ -1,89 +1,86 @@
-use Rattle.std.proofs.Common.{◌+◌, ◌-◌, ◌<◌, ◌≤◌, length, take, drop, refl, ap, ◌∙◌, zero-add, arith, rules}
-use Rattle.std.proofs.lemmas.List.{take_rest, length-drop, length-take-le}
-use Rattle.rules.specs.Program.{cell_types, tuple_at, shape_at}
-use Rattle.machine.specs.Cells.{filled_labels, job_labels, laid}
+use Rattle.std.proofs.Common.{◌≡◌, ◌<◌, length, sym, refl, ap, ◌∙◌, inr, arith, rules}
+use borrow.Author.Tests.{tests}
+use Rattle.std.proofs.lemmas.Iterator.Consumers.{YieldsList-from_enumerate, YieldsList-at}
+use Rattle.std.proofs.lemmas.List.{length_push}
+use Rattle.std.specs.Iterator.Adapters.{enumerate_source, enumerate_count}
+use Rattle.std.proofs.lemmas.Slice.Zip.{length-zip}
+use Rattle.rules.specs.Fit.{is_integer}
+use Rattle.rules.specs.Program.{cell_types}
+use Rattle.machine.specs.Cells.{image_words, laid}
 use Rattle.machine.specs.Runnables.{words_of, programme_of}
-use Rattle.machine.proofs.Sound.{sound}
-use Rattle.machine.proofs.Counting.{few_filled}
-use Rattle.machine.proofs.Looked.{exact, shape_there, words_are, words_exact, types_are, types_exact}
-use Rattle.machine.proofs.Laying.{cells_left, words_left, lay_more, laid_all}
+use Rattle.machine.specs.Tuples.{tuples_left}
+use Rattle.machine.proofs.Counting.{few_cells}
 use Rattle.machine.proofs.Fitted.{cells_hold}
+use Rattle.machine.proofs.Handing.{all_handed, this_cell, no_cell, some_next, next_is, run_short}
+use Rattle.machine.proofs.Laying.{as_many, lay_job, lay_plain, some_left, laid_all}
+use Rattle.machine.proofs.Sound.{sound}
 use Rattle.machine.proofs.lay.lay_cells.Goals as goal
+use Rattle.machine.proofs.lay.lay_cells.Goals.{then-is_integer, else-is_integer}
 
-pub loop-n-init : goal.loop-n-init
-loop-n-init c =
-    let p = programme_of c.args.image in
-    record { long = refl; count = zero-add (length (cell_types p)); takes = zero-add (length (job_labels p)); rest = refl; comes = refl }
-
-pub shape-requires : goal.shape-requires
-shape-requires c =
-    let s = sound (words_of c.args.image) c.args.image.sound in
-    let h : c.loop-n.n < length (programme_of c.args.image).tuples = omega arith in
-    shape_there s c.loop-n.n h c.tuple-tuple.result c.tuple-tuple.ensures
-
-pub slice_bounds-lay_tuple-end-in-loop-n : goal.slice_bounds-lay_tuple-end-in-loop-n
-slice_bounds-lay_tuple-end-in-loop-n c =
+pub loop-place-init : goal.loop-place-init
+loop-place-init c =
     let p = programme_of c.args.image in
     let s = sound (words_of c.args.image) c.args.image.sound in
-    let n = c.loop-n.n in
-    let h : n < length p.tuples = omega arith in
-    let size = words_exact s n h c.tuple-tuple.result c.tuple-tuple.ensures in
-    let fits : c.loop-n.cell + length c.tuple-tuple.result.words.now ≤ length c.loop-n.sheet = omega (arith, cells_left c.loop-n.invariant h, c.requires.room, c.loop-n.invariant.long) in
-    search rules
-
-pub lay_tuple-taken-requires : goal.lay_tuple-taken-requires
-lay_tuple-taken-requires c =
-    let p = programme_of c.args.image in
-    let s = sound (words_of c.args.image) c.args.image.sound in
-    let n = c.loop-n.n in
-    let h : n < length p.tuples = omega arith in
-    let t = c.tuple-tuple.result in
-    let te = c.tuple-tuple.ensures in
-    let x = c.shape.result in
-    let size = words_exact s n h t te in
-    let same = types_exact s n h t te x c.shape.ensures in
-    let types = ap (λ ts. length (filled_labels ts)) (types_are s n h t te x c.shape.ensures) in
-    let cell = c.loop-n.cell in
-    let sheet = c.loop-n.sheet in
-    let d = length-drop cell sheet in
-    let fits : cell + length t.words.now - cell ≤ length (drop cell sheet) = omega (arith, cells_left c.loop-n.invariant h, c.requires.room, c.loop-n.invariant.long) in
-    let job = c.args.job.now in
-    let left = ap length (take_rest job c.loop-n.taken) ∙ length-drop c.loop-n.taken job in
+    let source : enumerate_source c.into_iter-place-iterator.result ≡ c.flat_map-cells.result = ap enumerate_source c.into_iter-place-iterator.ensures.into_iter_gives ∙ c.enumerate-place-items.ensures.source in
+    let count : enumerate_count c.into_iter-place-iterator.result ≡ 0 = ap enumerate_count c.into_iter-place-iterator.ensures.into_iter_gives ∙ c.enumerate-place-items.ensures.count in
+    let made = c.flat_map-cells.ensures in
+    let road = YieldsList-at source (all_handed p _ c.flat_map-cells.result made.runs made.closure made.front made.back made.done (ap tuples_left made.source ∙ c.tuples.ensures) s.named.tuples (λ x u q k. search (rules, tests))) in
     record {
-      plain = same;
-      cells = length-take-le (cell + length t.words.now - cell) (drop cell sheet) fits ∙ (omega arith);
-      job = omega (arith, words_left c.loop-n.invariant h, c.requires.job);
+      can_go = (((λ d. ((tt, record { at = λ xs t q x u y f s. tt }), record { at = λ xs t q x u y f s j e. ((tt, tt), tt, search (rules, tests)) }), tt, λ x e. ((tt, tt), tt)), λ x e. ((tt, tt), tt)), tt, inr (λ r a b d. omega (arith, count, run_short road r b, length-zip (cell_types p) (image_words p.tuples), few_cells (words_of c.args.image) s)));
+      ends = tt;
+      hands_out = YieldsList-from_enumerate road count;
+      laid = record { long = refl; enough = omega (arith, c.requires.job, ap length c.iter-words.ensures.rest); behind = refl; comes = ap (laid (cell_types p) (image_words p.tuples)) c.iter-words.ensures.rest };
     }
 
-pub overflow_add-taken : goal.overflow_add-taken
-overflow_add-taken c =
-    let p = programme_of c.args.image in
-    let ns = words_of c.args.image in
-    let s = sound ns c.args.image.sound in
-    let n = c.loop-n.n in
-    let h : n < length p.tuples = omega arith in
-    let types = ap (λ ts. length (filled_labels ts)) (types_are s n h c.tuple-tuple.result c.tuple-tuple.ensures c.shape.result c.shape.ensures) in
-    omega (arith, words_left c.loop-n.invariant h, few_filled ns s, c.lay_tuple-taken.ensures.taken)
-
-pub loop-n-preserved : goal.loop-n-preserved
-loop-n-preserved c =
+pub unwrap-requires : goal.unwrap-requires
+unwrap-requires c =
     let p = programme_of c.args.image in
     let s = sound (words_of c.args.image) c.args.image.sound in
-    let n = c.loop-n.n in
-    let h : n < length p.tuples = omega arith in
-    let t = c.tuple-tuple.result in
-    let te = c.tuple-tuple.ensures in
-    let x = c.shape.result in
-    let types = types_are s n h t te x c.shape.ensures in
-    let job = c.args.job.now in
-    let taken = c.loop-n.taken in
-    lay_more c.loop-n.invariant h (exact s n h) c.requires.room (length t.words.now) (c.loop-n.cell + length t.words.now - c.loop-n.cell) c.lay_tuple-taken.result c.lay_tuple-taken.new.cells
-    (words_exact s n h t te) (omega arith)
-    (c.lay_tuple-taken.ensures.taken ∙ ap (λ ts. length (filled_labels ts)) types)
-    (c.lay_tuple-taken.ensures.cells ∙ ap (λ ts. laid ts t.words.now (take (length job - taken) (drop taken job))) types ∙ ap (λ ws. laid (shape_at p (tuple_at p n).shape) ws (take (length job - taken) (drop taken job))) (words_are s n h t te) ∙ ap (laid (shape_at p (tuple_at p n).shape) (tuple_at p n).words) (take_rest job taken))
+    let l = c.loop-place.invariant in
+    let t = this_cell (cell_types p) (image_words p.tuples) (as_many p p.tuples s.named.tuples) l.hands_out c.loop-place.yielded c.loop-place.yielded_by c.in-Some.is c.next.ensures.steps in
+    some_next _ _ c.next-then-is_integer.result c.next-then-is_integer.ensures.steps (some_left l.laid c.requires.room t.inside (ap is_integer (sym t.type) ∙ ap is_integer (sym c.type_in.ensures) ∙ sym c.is_integer.ensures ∙ c.if-is_integer.true))
+
+pub bounds-sheet-place : goal.bounds-sheet-place
+bounds-sheet-place c =
+    let p = programme_of c.args.image in
+    let s = sound (words_of c.args.image) c.args.image.sound in
+    let l = c.loop-place.invariant in
+    let t = this_cell (cell_types p) (image_words p.tuples) (as_many p p.tuples s.named.tuples) l.hands_out c.loop-place.yielded c.loop-place.yielded_by c.in-Some.is c.next.ensures.steps in
+    omega (arith, t.inside, t.at, l.laid.long, c.requires.room)
+
+pub offset_bounds-sheet-place : goal.offset_bounds-sheet-place
+offset_bounds-sheet-place c =
+    let p = programme_of c.args.image in
+    let s = sound (words_of c.args.image) c.args.image.sound in
+    let l = c.loop-place.invariant in
+    let t = this_cell (cell_types p) (image_words p.tuples) (as_many p p.tuples s.named.tuples) l.hands_out c.loop-place.yielded c.loop-place.yielded_by c.in-Some.is c.next.ensures.steps in
+    let low : c.in-Some.place < 256 = omega (arith, t.inside, t.at, few_cells (words_of c.args.image) s) in
+    search rules
+
+pub loop-place-preserved : goal.loop-place-preserved
+loop-place-preserved c =
+    let p = programme_of c.args.image in
+    let s = sound (words_of c.args.image) c.args.image.sound in
+    let l = c.loop-place.invariant in
+    let t = this_cell (cell_types p) (image_words p.tuples) (as_many p p.tuples s.named.tuples) l.hands_out c.loop-place.yielded c.loop-place.yielded_by c.in-Some.is c.next.ensures.steps in
+    let same = ap is_integer (sym t.type) ∙ ap is_integer (sym c.type_in.ensures) ∙ sym c.is_integer.ensures in
+    record {
+      can_go = search rules;
+      ends = search rules;
+      hands_out = l.hands_out;
+      laid = elim c.if-is_integer.branch [
+        | then-is_integer w ↦ rw (w.words-is, w.sheet-is) (lay_job l.laid c.requires.room t.inside (same ∙ w.if-is_integer.true) _ _ _ _ t.at (length_push c.loop-place.yielded _) (next_is _ _ w.next-then-is_integer.result _ w.unwrap.ensures w.next-then-is_integer.ensures.steps))
+        | else-is_integer w ↦ rw (w.words-is, w.sheet-is) (lay_plain l.laid c.requires.room t.inside (same ∙ w.if-is_integer.false) _ _ _ t.at (length_push c.loop-place.yielded _) t.word)
+      ];
+    }
 
 pub returns : goal.returns
 returns c =
-    let past : length (programme_of c.args.image).tuples ≤ c.loop-n.n = omega arith in
     let ns = words_of c.args.image in
-    record { sheet = laid_all c.loop-n.invariant past c.requires.room; hold = cells_hold ns (sound ns c.args.image.sound) c.args.job.now }
+    let p = programme_of c.args.image in
+    let s = sound ns c.args.image.sound in
+    let l = c.loop-place.invariant in
+    record {
+      sheet = laid_all l.laid c.requires.room (no_cell (cell_types p) (image_words p.tuples) (as_many p p.tuples s.named.tuples) l.hands_out c.loop-place.yielded c.loop-place.yielded_by c.in-None.is c.next.ensures.steps);
+      hold = cells_hold ns s c.args.job.now;
+    }

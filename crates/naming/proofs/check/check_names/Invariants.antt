@@ -12,5 +12,5 @@ abbrev pub invariant-loop-item : goal.invariant-loop-item
 invariant-loop-item g l =
     (goal.iterator-loop-item g).can_next l.item-iterator
     × (goal.iterator-loop-item g).is_finite l.item-iterator
-    × Every (InImage (length (words_in l.image))) (to_come l.item-iterator)
-    × (naming (g.K.LabelKind.meaning l.kind) (program_in l.image) (to_come l.item-iterator) ≡ naming_of (g.K.LabelKind.meaning l.kind) (words_in l.image))
+    × Every (InImage (length (words_in l.names.image))) (to_come l.item-iterator)
+    × (naming (g.K.LabelKind.meaning l.names.kind.now) (program_in l.names.image) (to_come l.item-iterator) ≡ naming_of (g.K.LabelKind.meaning l.names.kind.now) (words_in l.names.image))

@@ -1,8 +1,8 @@
-use Rattle.std.proofs.Common.{◌≡◌, map, drop}
+use Rattle.std.proofs.Common.{◌≡◌, ◌++◌, map}
 use Rattle.rules.specs.Says.{type_in}
 use Rattle.rows.specs.Rows.{held}
 use Rattle.typing.proofs.state.types_in.Given as goal
 
--- the words from i on are in the row
-abbrev pub invariant-loop-i : goal.invariant-loop-i
-invariant-loop-i l = held l.row ≡ map type_in (drop l.i l.words)
+-- the words that are still to come, and behind them what the row holds
+abbrev pub invariant-loop-word : goal.invariant-loop-word
+invariant-loop-word g l = map type_in l.word-iterator.iter.rest.now ++ held l.row ≡ map type_in l.words

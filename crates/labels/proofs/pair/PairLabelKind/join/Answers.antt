@@ -5,7 +5,7 @@ use Rattle.labels.specs.Parts.{up_is_joined}
 use Rattle.labels.proofs.pair.PairLabelKind.join.Given as given
 use Rattle.labels.proofs.pair.PairLabelKind.join.Goals as goal
 
-module _ (g : given.Over) (c : goal.After-count-n g) where
+module _ (g : given.Over) (c : goal.After-from-2 g) where
   abbrev first : Meaning
   first = g.A.LabelKind.meaning c.args.self.now.first
 
@@ -13,7 +13,7 @@ module _ (g : given.Over) (c : goal.After-count-n g) where
   second = g.B.LabelKind.meaning c.args.self.now.second
 
   abbrev code : ℕ
-  code = c.join-first.result * c.count-n.result + c.join-second.result
+  code = c.from.result * c.count-n.result + c.from-2.result
 
   -- the code that is made is the join by parts
   made : code ≡ joined_by_parts first second c.args.a c.args.b
@@ -27,8 +27,8 @@ module _ (g : given.Over) (c : goal.After-count-n g) where
       (g.met.B.LabelKind.lawful c.args.self.now.second) c.args.a c.args.b
       (subst T (sym c.if-not-are_labels.false ∙ c.are_labels.ensures) tt)
 
-pub overflow_cast-result-3 : goal.overflow_cast-result-3
-overflow_cast-result-3 g c = omega (arith, made g c, (right g c).1)
+pub overflow_cast-result : goal.overflow_cast-result
+overflow_cast-result g c = omega (arith, made g c, (right g c).1)
 
 pub returns : goal.returns
 returns g c = made g c ∙ (right g c).0

@@ -1,6 +1,7 @@
-use Rattle.std.proofs.Common.{◌≡◌, Some, sym, ap, ◌∙◌}
-use Rattle.image.specs.Items.{pieces}
-use Rattle.image.specs.Sections.{rank}
+use Rattle.std.proofs.Common.{◌≡◌, Some, sym, ap, ◌∙◌, rules}
+use denote.Enum.Bare.{same_true}
+use Rattle.image.specs.contracts.section.Section.{the_type}
+use Rattle.image.specs.Items.{item_section, pieces}
 use Rattle.image.specs.Reader.{to_come}
 use Rattle.programme.specs.Lookup.{nth_piece, part_piece}
 use Rattle.programme.proofs.Found.{found_here}
@@ -13,11 +14,11 @@ returns-then-part-number c =
     let ns = c.args.self.now.words.now in
     let s = c.args.section in
     let n = c.args.number in
-    let same = c.rank.ensures ∙ ap rank c.section.ensures in
+    let same : item_section c.in-Some.item ≡ s = sym c.section.ensures ∙ same_true the_type (search rules) _ _ (sym c.if-eq.ensures) in
     let part = c.part-part.ensures in
     let found : Some (part_piece s c.part-part.result) ≡ nth_piece s n (pieces ns) =
     ap (λ p. Some (part_piece s p)) part
-    ∙ found_here s n c.in-Some.item (to_come c.loop-item.item-iterator) c.in-Some.ensures.steps.item (sym same ∙ c.if-rank.true ∙ c.rank-in-loop-item.ensures) (ap (λ p. p.number) (sym part) ∙ c.if-part-number.true)
+    ∙ found_here s n c.in-Some.item (to_come c.loop-item.item-iterator) c.in-Some.ensures.steps.item same (ap (λ p. p.number) (sym part) ∙ c.if-part-number.true)
     ∙ c.loop-item.invariant.2
     in
     record { value = found; size = found_in Limited s n (pieces ns) (within_limits ns) (part_piece s c.part-part.result) found }
