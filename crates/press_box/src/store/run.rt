@@ -26,10 +26,13 @@ impl ImageStore {
     ) -> Result<Ran, RunFault>
         ensures { left result (stored self.new) strip.new sheet.new ≡ ran (stored self.old) (order job.now fuel strip.old sheet.old) }
     {
-        let image = self.runnable().ok_or(RunFault::Empty)?;
+        if self.len == 0 {
+            return Err(RunFault::Empty);
+        }
         if self.stopped {
             return Err(RunFault::Stopped);
         }
+        let image = Runnable::of(self.image());
         if job.len() != image.job_length() {
             return Err(RunFault::JobLength);
         }

@@ -1,5 +1,4 @@
-use Rattle.std.proofs.Common.{ℕ, ◌≤◌, length, sym, ap, ◌∙◌, subst}
-use Rattle.std.specs.Result.{result_ok}
+use Rattle.std.proofs.Common.{ℕ, ◌≤◌, length, sym, ap, ◌∙◌, subst, length-take, rules}
 use Rattle.rules.specs.Program.{Program}
 use Rattle.rules.specs.Says.{program_of}
 use Rattle.programme.specs.Spelled.{words_in}
@@ -12,14 +11,13 @@ use Rattle.press_box.proofs.store.ImageStore.run.Goals as goal
 
 pub run-ran-requires : goal.run-ran-requires
 run-ran-requires c =
-    let p = program_of (words_in c.in_ok-image.image.image) in
+    let p = program_of (words_in c.of-image.result.image) in
     subst (CellsHold p) (sym (front _ _ _ _ c.lay_cells.ensures.sheet (c.cell_count-cells.ensures.value ∙ sym c.lay_cells.ensures.hold.count))) c.lay_cells.ensures.hold
 
 pub returns : goal.returns
 returns c =
-    let p = program_of (words_in c.in_ok-image.image.image) in
+    let p = program_of (words_in c.of-image.result.image) in
     let b = stored c.args.self.now in
-    let there = c.ok_or.ensures.ok_part ∙ ap result_ok c.in_ok-image.was in
     let o = order c.args.job.now c.args.fuel c.args.strip.now c.args.sheet.now in
     leaves p b o
     (record {
@@ -31,9 +29,9 @@ returns c =
       comes = c.run-ran.ensures;
     })
     (record {
-      holds_image = rw there at c.runnable.ensures.some;
+      holds_image = search (rules, length-take);
       free = c.if-self.false;
       job = c.if-job-job_length.false ∙ c.job_length.ensures.value;
       room = subst (λ (n : ℕ). n ≤ length c.args.sheet.now) c.cell_count-cells.ensures.value c.if-sheet-cells.false;
     }) ∙
-    ap (λ (q : Program). ran_as q b o) (ap program_of (rw there at c.runnable.ensures.held))
+    ap (λ (q : Program). ran_as q b o) (ap program_of (c.of-image.ensures ∙ c.image.ensures.value))
