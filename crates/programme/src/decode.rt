@@ -16,5 +16,9 @@ pub fn type_in(raw: u32) -> Ty
 pub fn instruction_in(last: bool, raw: u32) -> Instruction
     ensures { result ≡ instruction_in last raw }
 {
-    Instruction::decode(last, Word::from(raw)).unwrap_or(Instruction::Halt)
+    // not by `unwrap_or`, which takes both in memory: a run decodes each of its words here
+    match Instruction::decode(last, Word::from(raw)) {
+        Some(instruction) => instruction,
+        None => Instruction::Halt,
+    }
 }
