@@ -56,7 +56,7 @@ pub fn run<K: LabelKind>(
     let mut strikes = vec![in heap; blank; job.strip]?;
     let mut sheet = vec![in heap; 0u32; job.sheet]?;
     match press.run(
-        call.words.as_slice(),
+        call.words,
         job.fuel,
         strikes.as_mut_slice(),
         sheet.as_mut_slice(),

@@ -86,7 +86,7 @@ pub fn compare_editions<K: LabelKind + Copy>(
     };
     comparison.load(image, words.as_slice())?;
     for (x, y) in first_lines.iter().zip(second_lines.iter()) {
-        comparison.go_on(x, y, words.as_slice())?;
+        comparison.go_on(*x, *y, words.as_slice())?;
     }
     if first_lines.len() != second_lines.len() {
         let n = Several(first_lines.len(), "line");
@@ -162,9 +162,11 @@ impl<K: LabelKind> Side<K> {
 
 impl<K: LabelKind> Comparison<'_, K> {
     // One call on both sides.
-    fn go_on(&mut self, x: &Line<'_>, y: &Line<'_>, image: &[u32]) -> Result<(), Failure> {
-        match (&x.call, &y.call) {
-            (Call::Job(a), Call::Job(b)) => self.run(a, b),
+    fn go_on(&mut self, x: Line<'_>, y: Line<'_>, image: &[u32]) -> Result<(), Failure> {
+        let mut first_words = Vec::new(self.rt.alloc());
+        let mut second_words = Vec::new(self.rt.alloc());
+        match (x.call(&mut first_words)?, y.call(&mut second_words)?) {
+            (Call::Job(a), Call::Job(b)) => self.run(&a, &b),
             (Call::Load, Call::Load) => Ok(self.load("load", image)?),
             (Call::Job(_), Call::Load) | (Call::Load, Call::Job(_)) => {
                 let n = x.number;
@@ -220,8 +222,8 @@ impl<K: LabelKind> Comparison<'_, K> {
         }
         let clash = self.clash(
             |reader, heap, xs, ys| reader.first_job_clash(heap, xs, ys),
-            a.words.as_slice(),
-            b.words.as_slice(),
+            a.words,
+            b.words,
         )?;
         if let Some(at) = clash {
             self.findings.warn(

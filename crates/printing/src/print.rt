@@ -76,9 +76,10 @@ pub fn print_edition<K: LabelKind + Drop>(
         tally: Tally::default(),
     };
     load(rt, &mut printing.press, image, words.as_slice())?;
+    let mut job_words = Vec::new(rt.alloc());
     for line in lines.iter() {
-        match &line.call {
-            Call::Job(call) => printing.run(call)?,
+        match line.call(&mut job_words)? {
+            Call::Job(call) => printing.run(&call)?,
             Call::Load => printing.load_again(words.as_slice())?,
         }
     }
