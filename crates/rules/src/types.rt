@@ -80,7 +80,7 @@ pub fn alike(one: Ty, other: Ty) -> bool
     ensures { result ≡ alike one other }
 {
     match (one, other) {
-        (Ty::Typed { sort: s, .. }, Ty::Typed { sort: o, .. }) => s == o,
+        (Ty::Typed { sort: s, .. }, Ty::Typed { sort: o, .. }) => same_sort(s, o),
         _ => false,
     }
 }
@@ -157,7 +157,7 @@ pub fn fit_label<K: LabelKind>(kind: &K, have: Ty, want: Ty) -> bool
 {
     match (have, want) {
         (Ty::Typed { sort: o, label: l }, Ty::Typed { sort: s, label: k }) => {
-            o != s || kind.at_or_below(l, k)
+            !same_sort(o, s) || kind.at_or_below(l, k)
         }
         _ => true,
     }

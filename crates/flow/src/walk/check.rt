@@ -18,6 +18,7 @@ use labels::LabelKind;
 use rules::rule::FlowRule;
 use rules::types::{
     alike, is_code, is_empty, is_integer, is_pointer, joined_label, label_of, raised_to,
+    same_context,
 };
 use typing::lookup::{block_promise, cell_type, channel_label, has_cell, target_promise};
 use typing::promise::Promise;
@@ -123,7 +124,10 @@ impl<K: LabelKind> Walk<'_, '_, K> {
     {
         let back = block_promise(&self.image, postdominator).context;
         self.label_fault(self.state.level(), label)?;
-        ask(back == self.state.context(), FlowRule::WrongContext)
+        ask(
+            same_context(back, self.state.context()),
+            FlowRule::WrongContext,
+        )
     }
 
     fn jump_fault(&self, to: u8) -> Result<(), FlowRule>
@@ -140,7 +144,7 @@ impl<K: LabelKind> Walk<'_, '_, K> {
     {
         let want = target_promise(&self.image, t);
         self.label_fault(label_of(t), self.state.level())?;
-        self.arrival_fault(&want, want.context == self.state.context())
+        self.arrival_fault(&want, same_context(want.context, self.state.context()))
     }
 
     // Control goes to the postdominator: the context is raised to it, and its own context is not compared.

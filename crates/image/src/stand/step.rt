@@ -55,7 +55,10 @@ impl Stand {
     {
         let head = Head::decode(w).ok_or(LayoutRule::KindOutOfPlace)?;
         let section = head.section();
-        ask(self.section <= section, LayoutRule::KindOutOfPlace)?;
+        ask(
+            self.section.rank() <= section.rank(),
+            LayoutRule::KindOutOfPlace,
+        )?;
         field_fault(Word::from(head), w)?;
         let count = if section == self.section {
             self.count + 1
